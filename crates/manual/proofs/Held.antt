@@ -1,0 +1,110 @@
+-- The definitions say of every code, and of every condition byte, what the witnesses' table says of it.
+-- Assumes nothing.
+use mathlib.Core.Path.{_≡_, refl, subst, sym, _∙_}
+use mathlib.Core.Bool.{Bool, true, false}
+use mathlib.Core.List.{List, []}
+use Prim.Native.Nat.{ℕ, _<_}
+use lib.Dec.{T, eqb, eqb→eq, lit<}
+use lib.ListN.{length, getD}
+use Rattle.tests.specs.Choice.{both}
+use Rattle.tests.specs.Table.{every}
+use Rattle.tests.proofs.Choice.{both-left, both-right}
+use Rattle.tests.proofs.Table.{at}
+use Rattle.manual.specs.Meaning.{Entry, empty}
+use Rattle.manual.specs.Bits.{Condition, conditionAt}
+use Rattle.manual.specs.Entries.{firsts, entryAt, count}
+use Rattle.manual.specs.Packed.{packed, packedCondition}
+use Rattle.manual.proofs.Listed.{listed, conditions}
+use Rattle.manual.proofs.Packing.{over, injective, injective-condition}
+
+-- an entry, and the number listed for it
+right : Entry → ℕ → Bool
+right e x = both (eqb (packed e) x) (eqb (over e) 0)
+
+right-number : (e : Entry) (x : ℕ) → T (right e x) → packed e ≡ x
+unfolding right
+right-number e x t = eqb→eq (packed e) x (both-left (eqb (packed e) x) (eqb (over e) 0) t)
+
+right-fits : (e : Entry) (x : ℕ) → T (right e x) → over e ≡ 0
+unfolding right
+right-fits e x t = eqb→eq (over e) 0 (both-right (eqb (packed e) x) (eqb (over e) 0) t)
+
+-- a first byte's place among the twelve, and its list
+rightList : ℕ → List ℕ → Bool
+rightList j xs = both (eqb (length xs) 256) (every (λ second. right (entryAt (getD firsts j 0) second)) 0 xs)
+
+all-right : T (every rightList 0 listed)
+unfolding listed rightList right packed over entryAt
+all-right = tt
+
+-- one list, its length and its entries
+module _ (j : ℕ) (xs : List ℕ) (t : T (rightList j xs)) where
+  whole : length xs ≡ 256
+  unfolding rightList
+  whole = eqb→eq (length xs) 256 (both-left (eqb (length xs) 256) (every (λ second. right (entryAt (getD firsts j 0) second)) 0 xs) t)
+
+  entry : (second : ℕ) → second < 256 → T (right (entryAt (getD firsts j 0) second) (getD xs second 0))
+  unfolding rightList
+  entry second h =
+      at (λ k. right (entryAt (getD firsts j 0) k)) 0 xs
+      (both-right (eqb (length xs) 256) (every (λ k. right (entryAt (getD firsts j 0) k)) 0 xs) t) second
+      (subst (λ (n : ℕ). second < n) (sym whole) h)
+
+twelve : length listed ≡ 12
+unfolding listed
+twelve = refl
+
+-- the twelve first bytes, by their places, and the second bytes
+module _ (j second : ℕ) (hj : j < 12) (h : second < 256) where
+  passed : T (right (entryAt (getD firsts j 0) second) (getD (getD listed j []) second 0))
+  passed = entry j (getD listed j []) (at rightList [] listed all-right j (subst (λ (n : ℕ). j < n) (sym twelve) hj)) second h
+
+  -- the code's entry has the listed number
+  pub held : packed (entryAt (getD firsts j 0) second) ≡ getD (getD listed j []) second 0
+  held = right-number (entryAt (getD firsts j 0) second) (getD (getD listed j []) second 0) passed
+
+  -- its numbers fit their digits
+  pub fits : over (entryAt (getD firsts j 0) second) ≡ 0
+  fits = right-fits (entryAt (getD firsts j 0) second) (getD (getD listed j []) second 0) passed
+
+  -- so the listed number leaves only one entry
+  pub determined : (e : Entry) → over e ≡ 0 → packed e ≡ getD (getD listed j []) second 0 → e ≡ entryAt (getD firsts j 0) second
+  determined e f p = injective e (entryAt (getD firsts j 0) second) f fits (p ∙ sym held)
+
+fails : (b : Bool) → (T b → ⊥) → b ≡ false
+fails true f = absurd (f tt)
+fails false f = refl
+
+-- a first byte that is none of the twelve has no meaning
+pub outside : (first second : ℕ) → ((j : ℕ) → j < 12 → first ≡ getD firsts j 0 → ⊥) → entryAt first second ≡ empty
+unfolding entryAt
+outside first second h = simp (other 0 (lit< tt), other 1 (lit< tt), other 2 (lit< tt), other 3 (lit< tt), other 4 (lit< tt), other 5 (lit< tt), other 6 (lit< tt), other 7 (lit< tt), other 8 (lit< tt), other 9 (lit< tt), other 10 (lit< tt), other 11 (lit< tt))
+  where
+    other : (j : ℕ) → j < 12 → eqb first (getD firsts j 0) ≡ false
+    other j i = fails (eqb first (getD firsts j 0)) (λ t. h j i (eqb→eq first (getD firsts j 0) t))
+
+rightCondition : ℕ → ℕ → Bool
+rightCondition c x = eqb (packedCondition (conditionAt c)) x
+
+all-conditions : T (every rightCondition 0 conditions)
+unfolding conditions rightCondition packedCondition conditionAt
+all-conditions = tt
+
+full : length conditions ≡ 256
+unfolding conditions
+full = refl
+
+pub held-condition : (c : ℕ) → c < 256 → packedCondition (conditionAt c) ≡ getD conditions c 0
+unfolding rightCondition
+held-condition c h =
+    eqb→eq (packedCondition (conditionAt c)) (getD conditions c 0)
+    (at rightCondition 0 conditions all-conditions c (subst (λ (n : ℕ). c < n) (sym full) h))
+
+-- and the listed number leaves only one condition
+pub determined-condition : (c : ℕ) → c < 256 → (d : Condition) → packedCondition d ≡ getD conditions c 0 → d ≡ conditionAt c
+determined-condition c h d p = injective-condition d (conditionAt c) (p ∙ sym (held-condition c h))
+
+-- of the 3,072 codes
+pub meanings : count ≡ 2556
+unfolding count
+meanings = refl

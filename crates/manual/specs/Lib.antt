@@ -1,0 +1,9 @@
+pub mod Meaning
+pub mod Codes
+pub mod Transfer
+pub mod Arithmetic
+pub mod Bits
+pub mod Jumps
+pub mod Control
+pub mod Entries
+pub mod Packed

@@ -1,0 +1,1 @@
+// Definitions only: what the maker's manual says, in specs/.

@@ -1,0 +1,22 @@
+-- Document 01, "Blank record": NOP, three Nothing, zeros, no width, unmarked.
+use mathlib.Core.Bool.{false}
+use Rattle.record.specs.declared.Record.{Record}
+use Rattle.record.specs.declared.Opcode.the-variants.{NOP}
+use Rattle.record.specs.declared.Operand.the-variants.{Nothing}
+use Rattle.record.specs.declared.Size.the-variants as size
+use Rattle.record.specs.declared.Width.the-variants as width
+
+abbrev pub blank : Record
+blank = record {
+  «imm_wide» = 0;
+  dispabs = 0;
+  first = 0;
+  length = 0;
+  opcode = NOP;
+  size = size.None;
+  width = width.None;
+  op0 = Nothing;
+  op1 = Nothing;
+  op2 = Nothing;
+  marked = false;
+}

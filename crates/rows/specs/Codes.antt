@@ -1,0 +1,85 @@
+-- Document 01, "Operand codes": the names that a code gives, and the bytes that it reads.
+use Prim.Native.Nat.{ℕ, _+_, _-_, _%_}
+use mathlib.Core.Bool.{Bool, true, false}
+use mathlib.Core.List.{List, [], _∷_}
+use lib.ListN.{getD}
+use lib.Dec.{ltb, eqb}
+use Rattle.record.specs.declared.Opcode.{Opcode}
+use Rattle.record.specs.declared.Opcode.the-variants.{NOP, BMGEU, BMGTU, BMEQ, BMN, BMLE, BMO, BMGE, BMLTU, BMLEU, BMNE, BMPZ, BMGT, BMNO, BMLT}
+use Rattle.record.specs.declared.Width.{Width}
+use Rattle.record.specs.declared.Width.the-variants.{None, B, W}
+use Rattle.record.specs.declared.Operand.{Operand}
+use Rattle.record.specs.declared.Operand.the-variants.{Nothing, Imm8, Imm16, R0L, R0H, R1L, R1H, R0, R1, R2, R3, R2R0, R3R1, A0, A1, A1A0, «Deref_A0», «Deref_A1», «Disp8_A0», «Disp8_A1», «Disp8_SB», «Disp8_FB», «Disp16_A0», «Disp16_A1», «Disp16_SB», «Disp20_A0», «Disp20_A1», Abs16, «Bit_R0», «Bit_R1», «Bit_R2», «Bit_R3», «Bit_A0», «Bit_A1», «Bit_Deref_A0», «Bit_Deref_A1», «Bit_Disp8_A0», «Bit_Disp8_A1», «Bit_Disp8_SB», «Bit_Disp8_FB», «Bit_Disp16_A0», «Bit_Disp16_A1», «Bit_Disp16_SB», «Bit_Abs16», INTBL, INTBH, FLG, ISP, SP, SB, FB}
+use Rattle.tests.specs.Choice.{pick}
+use Rattle.rows.specs.Row.{Num, disp, imm, imm20, InvalidOperand, Read, num, cond, stop, Condition, is, isnt}
+
+-- General, G(c): registers by the width at codes 0 to 3, then one list
+abbrev pub byteNames : List Operand
+byteNames = R0L ∷ R0H ∷ R1L ∷ R1H ∷ A0 ∷ A1 ∷ «Deref_A0» ∷ «Deref_A1» ∷ «Disp8_A0» ∷ «Disp8_A1» ∷ «Disp8_SB» ∷ «Disp8_FB» ∷ «Disp16_A0» ∷ «Disp16_A1» ∷ «Disp16_SB» ∷ Abs16 ∷ []
+
+abbrev pub wordNames : List Operand
+wordNames = R0 ∷ R1 ∷ R2 ∷ R3 ∷ A0 ∷ A1 ∷ «Deref_A0» ∷ «Deref_A1» ∷ «Disp8_A0» ∷ «Disp8_A1» ∷ «Disp8_SB» ∷ «Disp8_FB» ∷ «Disp16_A0» ∷ «Disp16_A1» ∷ «Disp16_SB» ∷ Abs16 ∷ []
+
+abbrev pub nameG : Width → ℕ → Operand
+nameG B c = getD byteNames c Nothing
+nameG W c = getD wordNames c Nothing
+nameG None c = getD wordNames c Nothing
+
+-- 8 to B read one byte, C to F two
+abbrev pub sizeG : ℕ → ℕ
+sizeG c = pick (ltb c 8) 0 (pick (ltb c 12) 1 2)
+
+-- Bit, T(c): as G, but codes 0 to 5 also read one byte
+abbrev pub nameT : ℕ → Operand
+nameT c = getD («Bit_R0» ∷ «Bit_R1» ∷ «Bit_R2» ∷ «Bit_R3» ∷ «Bit_A0» ∷ «Bit_A1» ∷ «Bit_Deref_A0» ∷ «Bit_Deref_A1» ∷ «Bit_Disp8_A0» ∷ «Bit_Disp8_A1» ∷ «Bit_Disp8_SB» ∷ «Bit_Disp8_FB» ∷ «Bit_Disp16_A0» ∷ «Bit_Disp16_A1» ∷ «Bit_Disp16_SB» ∷ «Bit_Abs16» ∷ []) c Nothing
+
+abbrev pub sizeT : ℕ → ℕ
+sizeT c = pick (ltb c 6) 1 (sizeG c)
+
+-- Long, J(c): 2, 3 and 5 name nothing and are refused, C and D are Disp20 with three bytes, the rest as G from 6 on
+abbrev pub nameJ : ℕ → Operand
+nameJ c = getD (R2R0 ∷ R3R1 ∷ Nothing ∷ Nothing ∷ A1A0 ∷ Nothing ∷ «Deref_A0» ∷ «Deref_A1» ∷ «Disp8_A0» ∷ «Disp8_A1» ∷ «Disp8_SB» ∷ «Disp8_FB» ∷ «Disp20_A0» ∷ «Disp20_A1» ∷ «Disp16_SB» ∷ Abs16 ∷ []) c Nothing
+
+-- Control, K(c): 0 names nothing and is refused
+abbrev pub nameK : ℕ → Operand
+nameK c = getD (Nothing ∷ INTBL ∷ INTBH ∷ FLG ∷ ISP ∷ SP ∷ SB ∷ FB ∷ []) c Nothing
+
+-- I: Imm8 at width B, Imm16 at W
+abbrev pub nameI : Width → Operand
+nameI B = Imm8
+nameI W = Imm16
+nameI None = Nothing
+
+abbrev pub sizeI : Width → ℕ
+sizeI B = 1
+sizeI W = 2
+sizeI None = 0
+
+-- what each of them reads
+abbrev pub G : ℕ → Read
+G c = num (disp (sizeG c))
+
+abbrev pub T : ℕ → Read
+T c = num (disp (sizeT c))
+
+abbrev pub I : Width → Read
+I w = num (imm (sizeI w))
+
+abbrev pub L : Read
+L = num imm20
+
+-- a refusal in place of what would be read from there on
+abbrev pub refuse : Bool → List Read → List Read
+refuse t rs = pick t (stop InvalidOperand ∷ []) rs
+
+abbrev pub J : ℕ → List Read
+J c = refuse (getD (false ∷ false ∷ true ∷ true ∷ false ∷ true ∷ []) c false) (pick (eqb c 12) L (pick (eqb c 13) L (G c)) ∷ [])
+
+abbrev pub K : ℕ → List Read → List Read
+K c rs = refuse (eqb c 0) rs
+
+-- the condition byte of 7E 2x: 00 to 06 and F8 to FE
+unfoldable pub condOf : ℕ → Condition
+condOf c =
+    pick (ltb c 0x07) (is (getD (BMGEU ∷ BMGTU ∷ BMEQ ∷ BMN ∷ BMLE ∷ BMO ∷ BMGE ∷ []) c NOP))
+    (pick (ltb c 0xF8) isnt (pick (ltb c 0xFF) (is (getD (BMLTU ∷ BMLEU ∷ BMNE ∷ BMPZ ∷ BMGT ∷ BMNO ∷ BMLT ∷ []) (c - 0xF8) NOP)) isnt))

@@ -1,0 +1,113 @@
+-- Document 01, "What comes back": one reader of all rows.
+use Prim.Native.Nat.{ℕ, zero, suc, _+_, _*_, _^_, _%_}
+use mathlib.Core.Bool.{Bool, true, false}
+use mathlib.Core.List.{List, [], _∷_}
+use lib.ListN.{getD, length}
+use lib.Dec.{ltb, leb, eqb}
+use Rattle.record.specs.declared.Answer.{Answer}
+use Rattle.record.specs.declared.Opcode.{Opcode}
+use Rattle.record.specs.declared.Size.{Size}
+use Rattle.record.specs.declared.Width.{Width}
+use Rattle.record.specs.declared.Operand.{Operand}
+use Rattle.record.specs.declared.Operand.the-variants.{Nothing}
+use Rattle.tests.specs.Choice.{pick}
+use Rattle.record.specs.Blank.{blank}
+use Rattle.rows.specs.declared.Seen.{Seen}
+use Rattle.rows.specs.declared.Got.{Got}
+use Rattle.rows.specs.declared.Got.the-variants.{On, Short}
+use Rattle.rows.specs.Row.{Num, disp, imm, imm20, refusalNo, Read, num, cond, stop, Condition, is, isnt, Face, Row, Table}
+use Rattle.rows.specs.Codes.{condOf}
+use Rattle.rows.specs.Rows.{document01}
+
+-- n bytes from a place, low first
+abbrev pub bytes : List ℕ → ℕ → ℕ → ℕ
+bytes bs p zero = 0
+bytes bs p (suc zero) = getD bs p 0
+bytes bs p (suc (suc n)) = getD bs p 0 + 256 * bytes bs (p + 1) (suc n)
+
+-- a displacement of n bytes: where it overwrites an earlier one, first keeps that
+abbrev pub withDisp : ℕ → ℕ → Seen → Seen
+withDisp n v s = record { «imm_wide» = s .«imm_wide»; dispabs = v; first = s .dispabs; taken = s .taken + n }
+
+unfoldable pub readDisp : ℕ → List ℕ → Seen → Got
+readDisp n bs s = pick (eqb n 0) (On s) (pick (leb (s .taken + n) (length bs)) (On (withDisp n (bytes bs (s .taken) n) s)) Short)
+
+abbrev pub withImm : ℕ → ℕ → Seen → Seen
+withImm n v s = record { «imm_wide» = v; dispabs = s .dispabs; first = s .first; taken = s .taken + n }
+
+-- n bytes into imm_wide, kept below m
+unfoldable pub readImm : ℕ → ℕ → List ℕ → Seen → Got
+readImm n m bs s = pick (leb (s .taken + n) (length bs)) (On (withImm n (bytes bs (s .taken) n % m) s)) Short
+
+-- L and Disp20: what is kept of three bytes
+abbrev pub twentyBits : ℕ
+twentyBits = 0x100000
+
+abbrev pub reading : Num → List ℕ → Seen → Got
+reading (disp n) = readDisp n
+reading (imm n) = readImm n (256 ^ n)
+reading imm20 = readImm 3 twentyBits
+
+-- 0: the record, whose length is the bytes taken
+abbrev pub accepted : Opcode → Size → Width → Operand → Operand → Bool → Seen → Answer
+accepted o z w a b m s = record {
+  inst = record {
+    «imm_wide» = s .«imm_wide»;
+    dispabs = s .dispabs;
+    first = s .first;
+    length = s .taken;
+    opcode = o;
+    size = z;
+    width = w;
+    op0 = a;
+    op1 = b;
+    op2 = Nothing;
+    marked = m;
+  };
+  taken = s .taken;
+  refusal = 0;
+}
+
+-- a refusal: its number, the bytes taken and the blank record
+abbrev pub refusal : ℕ → ℕ → Answer
+refusal e n = record { inst = blank; taken = n; refusal = e }
+
+-- a read that finds too little refuses with 1, and every byte was taken
+abbrev pub andThen : List ℕ → Got → (Seen → Answer) → Answer
+andThen bs (On s) k = k s
+andThen bs Short k = refusal 1 (length bs)
+
+abbrev pub past : Seen → Seen
+past s = record { «imm_wide» = s .«imm_wide»; dispabs = s .dispabs; first = s .first; taken = s .taken + 1 }
+
+abbrev pub renamed : Opcode → Face → Face
+renamed o f = record { opcode = o; size = f .size; width = f .width; op0 = f .op0; op1 = f .op1; marked = f .marked }
+
+abbrev pub judged : Condition → Seen → (Opcode → Answer) → Answer
+judged (is o) s k = k o
+judged isnt s k = refusal 2 (s .taken + 1)
+
+-- the reads of a row, one after the other; the earliest event answers
+unfoldable pub run : List Read → List ℕ → Face → Seen → Answer
+run [] bs f s = accepted (f .opcode) (f .size) (f .width) (f .op0) (f .op1) (f .marked) s
+run (num k ∷ rs) bs f s = andThen bs (reading k bs s) (run rs bs f)
+run (cond ∷ rs) bs f s =
+    pick (ltb (s .taken) (length bs)) (judged (condOf (getD bs (s .taken) 0)) s (λ o. run rs bs (renamed o f) (past s))) (refusal 1 (length bs))
+run (stop e ∷ rs) bs f s = refusal (refusalNo e) (s .taken)
+
+-- two bytes were taken
+abbrev pub begun : ℕ → Seen
+begun v = record { «imm_wide» = v; dispabs = 0; first = 0; taken = 2 }
+
+unfoldable pub runRow : Row → List ℕ → Answer
+runRow r bs = run (r .reads) bs (r .face) (begun (r .number))
+
+-- decoding by any first bytes and rows: 1 for no byte, 4 for a first byte outside, 1 where the second byte is missing
+unfoldable pub decodeBy : Table → List ℕ → Answer
+decodeBy t [] = refusal 1 0
+decodeBy t (a ∷ []) = pick (t .known a) (refusal 1 1) (refusal 4 1)
+decodeBy t (a ∷ b ∷ bs) = pick (t .known a) (runRow (t .rowAt a b) (a ∷ b ∷ bs)) (refusal 4 1)
+
+-- decoding as document 01 has it
+abbrev pub decodeRows : List ℕ → Answer
+decodeRows = decodeBy document01

@@ -1,0 +1,196 @@
+
+// The oracle: each of the nine decoders above on a fresh record, with a reader that counts.
+// `oracle/build` appends this file to the given text, because the decoders, the record's fields and `OperandSpec` are private to it.
+
+// Refusal numbers.
+pub const ACCEPTED: u8 = 0;
+pub const EXHAUSTED_INPUT: u8 = 1;
+pub const INVALID_OPCODE: u8 = 2;
+pub const INVALID_OPERAND: u8 = 3;
+pub const FIRST_BYTE_OUTSIDE: u8 = 4;
+
+// A name's number is its place in these arrays, which follow the enums of the project's own record; `oracle/check-names` compares them.
+pub const OPCODE_NAMES: &[&str] = &[
+    "NOP", "ABS", "ADC", "ADCF", "ADD", "AND", "BAND", "BCLR", "BMEQ", "BMGEU", "BMGT", "BMGTU",
+    "BMLE", "BMLEU", "BMLTU", "BMLT", "BMNO", "BMGE", "BMN", "BMNE", "BMO", "BMPZ", "BNAND",
+    "BNOR", "BNOT", "BNTST", "BNXOR", "BOR", "BSET", "BTST", "BTSTC", "BTSTS", "BXOR", "CMP",
+    "DADC", "DADD", "DIV", "DIVU", "DIVX", "DSBB", "DSUB", "ENTER", "EXITD", "EXTS", "FCLR",
+    "FSET", "GE", "INT", "JGE", "JGT", "JLE", "JLT", "JMPI", "JNO", "JO", "JSRI", "LDC", "LDCTX",
+    "LDE", "LDIPL", "LT", "MOV", "MOVA", "MOVHH", "MOVHL", "MOVLH", "MOVLL", "MUL", "MULU", "NEG",
+    "NO", "NOT", "OR", "POP", "POPC", "POPM", "PUSH", "PUSHA", "PUSHC", "PUSHM", "RMPA", "ROLC",
+    "RORC", "ROT", "SBB", "SHA", "SHL", "SMOVB", "SMOVF", "SSTR", "STC", "STCTX", "STE", "SUB",
+    "TST", "WAIT", "XCHG", "XOR",
+];
+
+pub const SIZE_NAMES: &[&str] = &["None", "B", "W", "L"];
+
+pub const OPERAND_NAMES: &[&str] = &[
+    "Nothing", "Imm4", "Imm8", "Imm16", "R0L", "R0H", "R1L", "R1H", "R0", "R1", "R2", "R3",
+    "R2R0", "R3R1", "A0", "A1", "A1A0", "Bit_R0", "Bit_R1", "Bit_R2", "Bit_R3", "Bit_A0",
+    "Bit_A1", "Bit_Deref_A0", "Bit_Deref_A1", "Bit_Disp8_A0", "Bit_Disp8_A1", "Bit_Disp8_SB",
+    "Bit_Disp8_FB", "Bit_Disp16_A0", "Bit_Disp16_A1", "Bit_Disp16_SB", "Bit_Abs16", "Disp8_A0",
+    "Disp8_A1", "Disp8_SB", "Disp8_FB", "Disp8_SP", "Disp16_A0", "Disp16_A1", "Disp16_SB",
+    "Disp20_A0", "Disp20_A1", "Deref_A0", "Deref_A1", "Deref_A1A0", "Abs16", "Abs20", "Disp8",
+    "RegList", "INTBL", "INTBH", "FLG", "ISP", "SP", "SB", "FB",
+];
+
+/// What the Rust answers for one string of bytes; all zeros behind `taken` when it refuses.
+#[derive(Debug, Copy, Clone, PartialEq, Eq)]
+pub struct Answer {
+    pub refusal: u8,
+    pub taken: usize,
+    pub opcode: u8,
+    pub size: u8,
+    pub operands: [u8; 3],
+    pub imm_wide: u32,
+    pub dispabs: u16,
+    pub length: u8,
+}
+
+/// Decodes the instruction at the start of `bytes`. A panic of the given text comes through to the caller.
+pub fn answer(bytes: &[u8]) -> Answer {
+    let mut reader = CountingReader { bytes, taken: 0 };
+    let (refusal, inst) = match decode_counted(&mut reader) {
+        Ok(inst) => (ACCEPTED, inst),
+        Err(refusal) => (refusal, Instruction::default()),
+    };
+    let (opcode, size) = opcode_and_size_numbers(inst.opcode);
+    Answer {
+        refusal,
+        taken: reader.taken,
+        opcode,
+        size,
+        operands: inst.operands.map(operand_number),
+        imm_wide: inst.imm_wide,
+        dispabs: inst.dispabs,
+        length: inst.length,
+    }
+}
+
+// A read that fails finds every byte taken, so the count needs no special case there.
+struct CountingReader<'a> {
+    bytes: &'a [u8],
+    taken: usize,
+}
+
+impl Reader<<M16C as Arch>::Address, <M16C as Arch>::Word> for CountingReader<'_> {
+    fn next(&mut self) -> Result<u8, StandardDecodeError> {
+        let byte = *self.bytes.get(self.taken).ok_or(StandardDecodeError::ExhaustedInput)?;
+        self.taken += 1;
+        Ok(byte)
+    }
+}
+
+fn decode_counted(words: &mut CountingReader) -> Result<Instruction, u8> {
+    let first = words.next().map_err(refusal_number)?;
+    // The crate's own rule for the size. It matters to neither 7E nor EB: their decoders ignore it.
+    let size = if first & 1 == 0 { Size::B } else { Size::W };
+    let mut inst = Instruction { length: 1, ..Instruction::default() };
+    let outcome = match first {
+        0x74 | 0x75 => decode_op74(&mut inst, size, words),
+        0x76 | 0x77 => decode_op76(&mut inst, size, words),
+        0x78 | 0x79 => decode_op78(&mut inst, size, words),
+        0x7A => decode_op7A(&mut inst, size, words),
+        0x7B => decode_op7B(&mut inst, size, words),
+        0x7C => decode_op7C(&mut inst, size, words),
+        0x7D => decode_op7D(&mut inst, size, words),
+        0x7E => decode_op7E(&mut inst, size, words),
+        0xEB => decode_opEB(&mut inst, size, words),
+        _ => return Err(FIRST_BYTE_OUTSIDE),
+    };
+    outcome.map_err(refusal_number)?;
+    Ok(inst)
+}
+
+fn refusal_number(error: StandardDecodeError) -> u8 {
+    match error {
+        StandardDecodeError::ExhaustedInput => EXHAUSTED_INPUT,
+        StandardDecodeError::InvalidOpcode => INVALID_OPCODE,
+        StandardDecodeError::InvalidOperand => INVALID_OPERAND,
+    }
+}
+
+// Runs while compiling only: a name that is missing from the array is a compile error.
+const fn position(names: &[&str], wanted: &str) -> u8 {
+    let mut place = 0;
+    while !same_bytes(names[place].as_bytes(), wanted.as_bytes()) {
+        place += 1;
+    }
+    place as u8
+}
+
+// `==` on slices cannot run while compiling.
+const fn same_bytes(left: &[u8], right: &[u8]) -> bool {
+    if left.len() != right.len() {
+        return false;
+    }
+    let mut place = 0;
+    while place < left.len() {
+        if left[place] != right[place] {
+            return false;
+        }
+        place += 1;
+    }
+    true
+}
+
+// The number of a variant, found by the variant's own name, so that no second table of numbers is kept.
+macro_rules! number {
+    ($variant:ident in $names:ident) => {
+        const { position($names, stringify!($variant)) }
+    };
+}
+
+// Opcodes without a number belong to first bytes outside the nine decoders.
+fn opcode_and_size_numbers(opcode: Opcode) -> (u8, u8) {
+    macro_rules! numbers {
+        (without size: $($plain:ident)*; with size: $($sized:ident)*) => {
+            match opcode {
+                $(Opcode::$plain => (number!($plain in OPCODE_NAMES), number!(None in SIZE_NAMES)),)*
+                $(Opcode::$sized(size) => (number!($sized in OPCODE_NAMES), size_number(size)),)*
+                unnumbered => panic!("opcode without a number: {:?}", unnumbered),
+            }
+        };
+    }
+    numbers! {
+        without size:
+            NOP ABS BAND BCLR BMEQ BMGEU BMGT BMGTU BMLE BMLEU BMLTU BMLT BMNO BMGE BMN BMNE BMO
+            BMPZ BNAND BNOR BNOT BNTST BNXOR BOR BSET BTST BTSTC BTSTS BXOR DADC DADD DSBB DSUB
+            ENTER EXITD EXTS GE INT JGE JGT JLE JLT JMPI JNO JO JSRI LDC LDCTX LDE LDIPL LT MOVA
+            MOVHH MOVHL MOVLH MOVLL MUL NEG NO POP POPC POPM PUSHA PUSHC PUSHM ROLC RORC STC STCTX
+            STE WAIT;
+        with size:
+            ADC ADCF ADD AND CMP DIV DIVU DIVX MOV MULU NOT OR PUSH RMPA ROT SBB SHA SHL SMOVB
+            SMOVF SSTR SUB TST XCHG XOR
+    }
+}
+
+fn size_number(size: Size) -> u8 {
+    match size {
+        Size::B => number!(B in SIZE_NAMES),
+        Size::W => number!(W in SIZE_NAMES),
+        Size::L => number!(L in SIZE_NAMES),
+        unnumbered => panic!("size without a number: {:?}", unnumbered),
+    }
+}
+
+// Operands without a number belong to first bytes outside the nine decoders.
+fn operand_number(operand: OperandSpec) -> u8 {
+    macro_rules! numbers {
+        ($($name:ident)*) => {
+            match operand {
+                $(OperandSpec::$name => number!($name in OPERAND_NAMES),)*
+                unnumbered => panic!("operand without a number: {:?}", unnumbered),
+            }
+        };
+    }
+    numbers! {
+        Nothing Imm4 Imm8 Imm16 R0L R0H R1L R1H R0 R1 R2 R3 R2R0 R3R1 A0 A1 A1A0
+        Bit_R0 Bit_R1 Bit_R2 Bit_R3 Bit_A0 Bit_A1 Bit_Deref_A0 Bit_Deref_A1
+        Bit_Disp8_A0 Bit_Disp8_A1 Bit_Disp8_SB Bit_Disp8_FB
+        Bit_Disp16_A0 Bit_Disp16_A1 Bit_Disp16_SB Bit_Abs16
+        Disp8_A0 Disp8_A1 Disp8_SB Disp8_FB Disp8_SP Disp16_A0 Disp16_A1 Disp16_SB
+        Disp20_A0 Disp20_A1 Deref_A0 Deref_A1 Deref_A1A0 Abs16 Abs20 Disp8 RegList
+        INTBL INTBH FLG ISP SP SB FB
+    }
+}

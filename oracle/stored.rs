@@ -1,0 +1,86 @@
+// The stored list: a fixed choice of byte strings, each with the oracle's answer, one line of fixed width each.
+
+use std::collections::BTreeSet;
+use std::fmt::Write;
+
+use oracle::answer;
+
+const MOST_BYTES: usize = 8;
+
+// The two tails of the whole strings. No position has the same byte in both, and no byte stands twice in a tail except zero;
+// wherever a 20-bit number can end, at least one of them has a top nibble that must be masked away.
+const WHOLE_TAILS: [[u8; 6]; 2] =
+    [[0x89, 0x67, 0xF5, 0xB2, 0xD6, 0x1C], [0x00, 0xFE, 0x4A, 0x00, 0x93, 0x80]];
+
+// The tail that is cut short. Its first three bytes are conditions that 7E 2n accepts, so those codes are accepted once whole.
+const CUT_TAIL: [u8; 6] = [0x05, 0x06, 0xFA, 0xC3, 0xD4, 0xE7];
+
+// Stands before the condition bytes of 7E 2n. Both are refused as conditions, so that one read too early shows.
+const BEFORE_CONDITION: [u8; 2] = [0x90, 0x7F];
+
+pub fn list() -> String {
+    strings().iter().map(|bytes| stored_line(bytes)).collect()
+}
+
+// A set, so that no string comes twice whichever rule below chose it.
+fn strings() -> BTreeSet<Vec<u8>> {
+    let mut strings = BTreeSet::new();
+    strings.insert(vec![]);
+    for first in 0..=0xFF {
+        strings.insert(vec![first]);
+        if answer(&[first]).refusal == oracle::FIRST_BYTE_OUTSIDE {
+            strings.insert(vec![first, !first]);
+        } else {
+            strings.extend((0..=0xFF).flat_map(|second| strings_of_code([first, second])));
+        }
+    }
+    strings.extend((0x20..=0x2F).flat_map(condition_strings));
+    strings
+}
+
+fn strings_of_code(code: [u8; 2]) -> Vec<Vec<u8>> {
+    let mut strings: Vec<Vec<u8>> = WHOLE_TAILS.iter().map(|tail| [&code, &tail[..]].concat()).collect();
+    let whole = [&code, &CUT_TAIL[..]].concat();
+    // Cuts with two or more bytes to spare would only repeat each other.
+    let longest_cut = (answer(&whole).taken + 1).min(whole.len() - 1);
+    strings.extend((code.len()..=longest_cut).map(|length| whole[..length].to_vec()));
+    strings
+}
+
+fn condition_strings(second: u8) -> Vec<Vec<u8>> {
+    let mut before_condition = vec![0x7E, second];
+    let operand_bytes = answer(&[&before_condition, &CUT_TAIL[..]].concat()).taken - 3;
+    before_condition.extend(&BEFORE_CONDITION[..operand_bytes]);
+    (0..=0xFF).map(|condition| [&before_condition[..], &[condition]].concat()).collect()
+}
+
+// README.md describes the fields.
+fn stored_line(bytes: &[u8]) -> String {
+    let answer = answer(bytes);
+    let mut padded = bytes.to_vec();
+    padded.resize(MOST_BYTES, 0);
+    let [op0, op1, op2] = answer.operands;
+    format!(
+        "{} {} {} {} {:02X}{}{:02X}{:02X}{:02X} {:08X} {:04X} {}\n",
+        bytes.len(),
+        packed_hex(&padded),
+        answer.refusal,
+        answer.taken,
+        answer.opcode,
+        answer.size,
+        op0,
+        op1,
+        op2,
+        answer.imm_wide,
+        answer.dispabs,
+        answer.length
+    )
+}
+
+fn packed_hex(bytes: &[u8]) -> String {
+    let mut digits = String::new();
+    for byte in bytes {
+        write!(digits, "{:02X}", byte).expect("a string takes every write");
+    }
+    digits
+}
