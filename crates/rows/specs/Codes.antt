@@ -72,8 +72,15 @@ L = num imm20
 abbrev pub refuse : Bool → List Read → List Read
 refuse t rs = pick t (stop InvalidOperand ∷ []) rs
 
+-- the codes of no register pair, and what J reads at the others
+unfoldable pub noPair : ℕ → Bool
+noPair c = pick (eqb c 2) true (pick (eqb c 3) true (eqb c 5))
+
+unfoldable pub numJ : ℕ → Num
+numJ c = pick (eqb c 12) imm20 (pick (eqb c 13) imm20 (disp (sizeG c)))
+
 abbrev pub J : ℕ → List Read
-J c = refuse (getD (false ∷ false ∷ true ∷ true ∷ false ∷ true ∷ []) c false) (pick (eqb c 12) L (pick (eqb c 13) L (G c)) ∷ [])
+J c = refuse (noPair c) (num (numJ c) ∷ [])
 
 abbrev pub K : ℕ → List Read → List Read
 K c rs = refuse (eqb c 0) rs

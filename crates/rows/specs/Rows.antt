@@ -14,7 +14,7 @@ use Rattle.record.specs.declared.Operand.{Operand}
 use Rattle.record.specs.declared.Operand.the-variants.{Nothing, Imm4, Imm8, Imm16, R0L, R0H, R1H, R0, R1, R2R0, R3R1, A1A0, «Disp8_SP», «Disp20_A0», «Deref_A1A0», Abs16, Abs20, Disp8, SP}
 use Rattle.tests.specs.Choice.{pick}
 use Rattle.rows.specs.Row.{Num, disp, imm, Refusal, InvalidOpcode, InvalidOperand, Read, num, cond, stop, Face, Row, Table}
-use Rattle.rows.specs.Codes.{nameG, nameT, nameJ, nameK, nameI, G, T, I, L, J, K, refuse}
+use Rattle.rows.specs.Codes.{noPair, numJ, nameG, nameT, nameJ, nameK, nameI, G, T, I, L, J, K, refuse}
 
 -- the size that a width gives an opcode that carries one
 abbrev pub sizeOf : Width → Size
@@ -123,12 +123,18 @@ abbrev pub xchg : Width → ℕ → ℕ → Row
 xchg w h n = sized XCHG w (nameG w h) (nameG w n) (G n ∷ [])
 
 -- 7A: G(n) is read, then K judged
+abbrev pub ldc : ℕ → ℕ → Row
+ldc k n = star (bare LDC B (nameG B n) (nameK k) (G n ∷ K k []))
+
 unfoldable pub row7A : ℕ → ℕ → Row
-row7A h n = pick (leb 8 h) (star (bare LDC B (nameG B n) (nameK (h - 8)) (G n ∷ K (h - 8) []))) (pick (leb 4 h) (refused InvalidOperand) (xchg B h n))
+row7A h n = pick (leb 8 h) (ldc (h - 8) n) (pick (leb 4 h) (refused InvalidOperand) (xchg B h n))
 
 -- 7B: K is judged first
+abbrev pub stc : ℕ → ℕ → Row
+stc k n = bare STC W (nameG W n) (nameK k) (K k (G n ∷ []))
+
 unfoldable pub row7B : ℕ → ℕ → Row
-row7B h n = pick (leb 8 h) (bare STC W (nameG W n) (nameK (h - 8)) (K (h - 8) (G n ∷ []))) (pick (leb 4 h) (refused InvalidOperand) (xchg W h n))
+row7B h n = pick (leb 8 h) (stc (h - 8) n) (pick (leb 4 h) (refused InvalidOperand) (xchg W h n))
 
 -- 7C and 7D together
 -- h=4 MULU, 5 MUL: operand 1 is G(h)
@@ -191,15 +197,18 @@ abbrev pub movTo : Opcode → ℕ → Row
 movTo o n = bare o B R0L (nameG B n) (G n ∷ [])
 
 -- 6: 3 for n 1, 3, 4, 5
+abbrev pub badExts : ℕ → Bool
+badExts n = getD (false ∷ true ∷ false ∷ true ∷ true ∷ true ∷ []) n false
+
 abbrev pub exts : ℕ → Row
-exts n = bare EXTS B (nameG B n) Nothing (refuse (getD (false ∷ true ∷ false ∷ true ∷ true ∷ true ∷ []) n false) (G n ∷ []))
+exts n = bare EXTS B (nameG B n) Nothing (refuse (badExts n) (G n ∷ []))
 
 -- C: 3 for n 2, 3, 5; 0, 1, 4 are R2R0 R3R1 A1A0
 abbrev pub nameC : ℕ → Operand
 nameC n = getD (R2R0 ∷ R3R1 ∷ Nothing ∷ Nothing ∷ A1A0 ∷ Nothing ∷ []) n (nameG B n)
 
 abbrev pub extsC : ℕ → Row
-extsC n = star (bare EXTS B (nameC n) Nothing (refuse (getD (false ∷ false ∷ true ∷ true ∷ false ∷ true ∷ []) n false) (G n ∷ [])))
+extsC n = star (bare EXTS B (nameC n) Nothing (refuse (noPair n) (G n ∷ [])))
 
 unfoldable pub row7CF : ℕ → Row
 row7CF n =
@@ -316,8 +325,14 @@ row7E h n =
 
 -- EB
 -- SHL.L, or SHA.L if h has bit 1: R2R0, or R3R1 by bit 0
+abbrev pub shiftOpcode : ℕ → Opcode
+shiftOpcode h = pick (eqb (h / 2 % 2) 0) SHL SHA
+
+abbrev pub shiftPair : ℕ → Operand
+shiftPair h = pick (eqb (h % 2) 0) R2R0 R3R1
+
 abbrev pub longShift : ℕ → Operand → ℕ → Row
-longShift h a v = row (pick (eqb (h / 2 % 2) 0) SHL SHA) size.L None a (pick (eqb (h % 2) 0) R2R0 R3R1) v []
+longShift h a v = row (shiftOpcode h) size.L None a (shiftPair h) v []
 
 abbrev pub mova : ℕ → ℕ → Row
 mova h n = starIf (leb 6 h) (bare MOVA None (nameG W n) (nameG W h) (G n ∷ G h ∷ []))
@@ -350,7 +365,7 @@ known a = pick (ltb a 0x74) false (pick (leb a 0x7E) true (eqb a 0xEB))
 
 -- the rows of a known first byte (functions are chosen, so that only the row asked for is computed; to unfold it is to unfold them all)
 unfoldable pub rowsOf : ℕ → ℕ → ℕ → Row
-unfolding row row74 row76 row78 row7A row7B rowE row7C row7CF row7D row7DC row7DD row7DF row7E rowEB rowEBlow
+unfolding noPair numJ row row74 row76 row78 row7A row7B rowE row7C row7CF row7D row7DC row7DD row7DF row7E rowEB rowEBlow
 rowsOf a =
     pick (eqb a 0xEB) rowEB
     (getD (row74 B ∷ row74 W ∷ row76 B ∷ row76 W ∷ row78 B ∷ row78 W ∷ row7A ∷ row7B ∷ row7C ∷ row7D ∷ row7E ∷ []) (a - 0x74) (λ h n. refused InvalidOpcode))

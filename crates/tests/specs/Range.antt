@@ -15,3 +15,8 @@ howMany f (suc n) = pick (f n) 1 0 + howMany f n
 unfoldable pub total : (ℕ → ℕ) → ℕ → ℕ
 total f zero = 0
 total f (suc n) = f n + total f n
+
+-- what is said of every number below a bound, as one tuple
+abbrev pub Each : (ℕ → Type 0) → ℕ → Type 0
+Each P zero = Unit {0}
+Each P (suc n) = Each P n × P n

@@ -1,0 +1,86 @@
+
+// Rust's side of the bench, appended to oracle/driver.rs: the nine decoders at a place of an image, the record as numbers.
+// One peer is compiled at a time (`--cfg peer=..`): with one caller the decoders can be inlined, which serves the Rust best.
+
+const TOO_LITTLE_ROOM: u32 = 6;
+
+#[inline(always)]
+fn deliver(image: &[u8], at: usize, out: &mut [u32]) -> u32 {
+    let Some(record) = out.first_chunk_mut() else { return TOO_LITTLE_ROOM };
+    let bytes = image.get(at..).unwrap_or(&[]);
+    let mut reader = CountingReader { bytes, taken: 0 };
+    let mut inst = fresh();
+    match decode_counted(&mut inst, &mut reader) {
+        Ok(()) => {
+            *record = numbers(&inst, width_number(bytes[0]), reader.taken);
+            u32::from(ACCEPTED)
+        }
+        Err(refusal) => {
+            *record = [0; 12];
+            record[0] = reader.taken as u32;
+            u32::from(refusal)
+        }
+    }
+}
+
+#[inline(always)]
+fn width_number(first: u8) -> u32 {
+    match first {
+        0x7E | 0xEB => 0,
+        _ if first & 1 == 0 => 1,
+        _ => 2,
+    }
+}
+
+// The Rust has neither the earlier displacement nor the mark: their numbers are 0.
+#[inline(always)]
+fn numbers(inst: &Instruction, width: u32, taken: usize) -> crate::Record {
+    let (opcode, size) = opcode_and_size_numbers(inst.opcode);
+    let operand = |k: usize| u32::from(operand_number(inst.operands[k]));
+    [
+        taken as u32,
+        u32::from(opcode),
+        u32::from(size),
+        width,
+        operand(0),
+        operand(1),
+        operand(2),
+        inst.imm_wide,
+        u32::from(inst.dispabs),
+        0,
+        u32::from(inst.length),
+        0,
+    ]
+}
+
+/// The parameters and the answer of the port's `m16c_decode`.
+///
+/// # Safety
+/// `image` has `image_len` bytes to read, `out` has `out_len` numbers to write.
+#[cfg(peer = "call")]
+#[no_mangle]
+#[inline(never)]
+pub unsafe extern "C" fn rust_decode(
+    image: *const u8,
+    image_len: usize,
+    at: usize,
+    out: *mut u32,
+    out_len: usize,
+) -> u32 {
+    let image = core::slice::from_raw_parts(image, image_len);
+    deliver(image, at, core::slice::from_raw_parts_mut(out, out_len))
+}
+
+#[cfg(peer = "loop")]
+#[inline(never)]
+pub fn rust_decode_at_each(image: &[u8], places: &[u32], record: &mut crate::Record) {
+    crate::at_each(
+        places,
+        record,
+        // Left alone, the compiler makes a function of this much code and calls it.
+        #[inline(always)]
+        |place, record| {
+            deliver(image, place, record);
+        },
+    );
+}

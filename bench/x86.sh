@@ -1,0 +1,105 @@
+# Sourced by bench/run and oracle/run: x86-64 programs that hold both the port and the Rust, on x86-64 and on Arm.
+# They set `me`, their name in messages, and `repo`, the root of the repository, before.
+# The environment may set
+#   BENCH_ROOT     a folder to keep downloads in (default target/bench/root, which `rt ci` removes)
+#   M16C_LIBRARY   an archive to take as the port, instead of building target/staticlib/libm16c.a
+
+machine=$(uname -m)
+work=$repo/target/bench
+mkdir -p "$work"
+
+fail() {
+    printf '%s: %s\n' "$me" "$1" >&2
+    exit 2
+}
+
+need() {
+    for tool; do
+        command -v "$tool" >/dev/null 2>&1 || fail "$tool is missing"
+    done
+}
+
+# Sets `kit` and `tools`: the Rattle kit and its compiler, linker and C library for x86-64.
+find_kit() {
+    need rt readlink
+    kit=${RATTLE_HOME:-$(cd "$(dirname "$(readlink -f "$(command -v rt)")")/.." && pwd -P)}
+    tools=$kit/on/$machine/toolchain
+    [ -x "$tools/bin/ld.lld" ] || fail "the Rattle kit at $kit has no toolchain for $machine"
+}
+
+# Sets `library`. The kit to build with may be named; default: the one that rt belongs to.
+build_library() {
+    library=${M16C_LIBRARY:-}
+    if [ -n "$library" ]; then
+        [ -r "$library" ] || fail "M16C_LIBRARY: no such archive: $library"
+        return
+    fi
+    library=$repo/target/staticlib/libm16c.a
+    echo "$me: rt staticlib m16c (minutes, if the crates are not proved yet)" >&2
+    (cd "$repo" && RATTLE_HOME=${1:-$kit} rt staticlib m16c) >"$work/rt.log" 2>&1 || {
+        cat "$work/rt.log" >&2
+        printf '%s: rt staticlib m16c failed\n' "$me" >&2
+        exit 1
+    }
+}
+
+# Sets `root` and `root_libs`: Debian's Rust and qemu-user, fetched if they are not there.
+fetch_rust() {
+    root=${BENCH_ROOT:-$work/root}
+    mkdir -p "$root" || fail "BENCH_ROOT: cannot make $root"
+    root=$(cd "$root" && pwd -P)
+    root_libs=$root/usr/lib/$machine-linux-gnu
+    if [ ! -x "$root/usr/bin/rustc" ] || [ ! -x "$root/usr/bin/qemu-x86_64" ] ||
+        [ ! -d "$root/usr/lib/rustlib/x86_64-unknown-linux-gnu/lib" ]; then
+        need apt-get dpkg curl
+        "$repo/bench/get" "$root" >"$work/get.log" 2>&1 || fail "fetching Debian's Rust failed: see $work/get.log"
+    fi
+}
+
+write_script() {
+    cat >"$1"
+    chmod +x "$1"
+}
+
+# Writes the commands `rustc-x86` and `rustc-own` into `work`: Debian's Rust for x86-64 and for this machine.
+write_rust_commands() {
+    # Rust's std for x86-64 comes without an x86-64 C library to link; the kit has one, and a linker that runs here.
+    write_script "$work/link-x86" <<SCRIPT
+#!/bin/sh
+n=\$#
+while [ "\$n" -gt 0 ]; do
+    word=\$1; shift; n=\$((n - 1))
+    case \$word in
+    -m64 | -nodefaultlibs | -lutil | -lrt | -lpthread | -ldl | -lc | -lm | -lgcc_s | -lgcc | -no-pie | -pie) ;;
+    -Wl,*) old=\$IFS; IFS=,; for part in \${word#-Wl,}; do set -- "\$@" "\$part"; done; IFS=\$old ;;
+    *) set -- "\$@" "\$word" ;;
+    esac
+done
+lib='$tools/lib'
+exec '$tools/bin/ld.lld' -pie -dynamic-linker /lib64/ld-linux-x86-64.so.2 "\$lib/Scrt1.o" "\$lib/crti.o" "\$lib/crtbeginS.o" "\$@" \\
+    "\$lib/libc.so.6" "\$lib/libc_nonshared.a" "\$lib/libgcc_s.so.1" "\$lib/libm.so.6" "\$lib/libgcc.a" "\$lib/crtendS.o" "\$lib/crtn.o"
+SCRIPT
+    write_script "$work/rustc-own" <<SCRIPT
+#!/bin/sh
+LD_LIBRARY_PATH='$root_libs' exec '$root/usr/bin/rustc' "\$@"
+SCRIPT
+    write_script "$work/rustc-x86" <<SCRIPT
+#!/bin/sh
+exec '$work/rustc-own' --target x86_64-unknown-linux-gnu -C target-cpu=x86-64 -C linker='$work/link-x86' "\$@"
+SCRIPT
+}
+
+# Everything that programs of `rustc-x86` need.
+prepare_x86() {
+    fetch_rust
+    write_rust_commands
+}
+
+qemu() {
+    LD_LIBRARY_PATH=$root_libs "$root/usr/bin/qemu-x86_64" "$@"
+}
+
+# Runs a program of `rustc-x86` with the C library that it was linked to, under the plugin that `plugin` names, if any.
+emulate() {
+    qemu ${plugin:+-plugin "$plugin"} "$tools/lib/ld-linux-x86-64.so.2" --library-path "$tools/lib" "$@"
+}

@@ -1,0 +1,41 @@
+-- The bytes from a place on, and decoding by the first two.
+-- Assumes nothing.
+use Prim.Native.Nat.{ℕ, zero, suc, _-_, _≤_}
+use mathlib.Core.Path.{_≡_, refl, sym, ap, _∙_}
+use mathlib.Core.Bool.{true, false}
+use mathlib.Core.List.{List, [], _∷_}
+use native.Mathlib.Nat.{le-of-suc-le-suc, not-suc-le-zero}
+use native.Mathlib.Omega.{arith}
+use lib.ListN.{length, getD, take, drop, length-drop}
+use lib.Seq.{drop-nil, take-length}
+use Rattle.tests.specs.Choice.{pick}
+use Rattle.rows.specs.Rows.{known, document01}
+use Rattle.rows.specs.Run.{decodeRows, decodeBy, refusal, runRow}
+
+-- past a list's end nothing is left
+pub drop-past : (k : ℕ) (l : List ℕ) → length l ≤ k → drop k l ≡ []
+drop-past k [] h = drop-nil k
+drop-past zero (x ∷ xs) h = absurd (not-suc-le-zero h)
+drop-past (suc k) (x ∷ xs) h = drop-past k xs (le-of-suc-le-suc h)
+
+-- a part from k to the end, as the code lends it, is what is left from k
+pub rest : (k : ℕ) (l : List ℕ) → take (length l - k) (drop k l) ≡ drop k l
+rest k l = ap (λ n. take n (drop k l)) (sym (length-drop k l)) ∙ take-length (drop k l)
+
+pub none : (bs : List ℕ) → length bs ≡ 0 → refusal 1 0 ≡ decodeRows bs
+unfolding decodeBy
+none [] h = refl
+none (a ∷ bs) h = absurd (omega arith)
+
+pub one : (bs : List ℕ) → length bs ≡ 1 → pick (known (getD bs 0 0)) (refusal 1 1) (refusal 4 1) ≡ decodeRows bs
+unfolding decodeBy
+one [] h = absurd (omega arith)
+one (a ∷ []) h = refl
+one (a ∷ b ∷ bs) h = absurd (omega arith)
+
+pub two : (bs : List ℕ) → 2 ≤ length bs
+    → pick (known (getD bs 0 0)) (runRow (document01 .rowAt (getD bs 0 0) (getD bs 1 0)) bs) (refusal 4 1) ≡ decodeRows bs
+unfolding decodeBy
+two [] h = absurd (omega arith)
+two (a ∷ []) h = absurd (omega arith)
+two (a ∷ b ∷ bs) h = refl

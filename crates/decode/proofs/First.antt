@@ -1,0 +1,52 @@
+-- The first byte chooses the group: what a group answers is what the rows of its first bytes say.
+-- Assumes nothing.
+use Prim.Native.Nat.{ℕ, _/_, _%_, _≤_, _<_}
+use mathlib.Core.Path.{_≡_, refl}
+use mathlib.Core.Bool.{Bool, true, false}
+use mathlib.Core.List.{List}
+use native.Mathlib.Omega.{arith}
+use lib.Dec.{eqb}
+use borrow.Author.Tests.{lt-ltb, le-ltb, lt-leb, ne-eqb}
+use Rattle.tests.specs.Choice.{pick}
+use Rattle.tests.proofs.Range.{each-from}
+use Rattle.record.specs.declared.Answer.{Answer}
+use Rattle.record.specs.declared.Width.{Width}
+use Rattle.rows.specs.Row.{Row}
+use Rattle.rows.specs.Rows.{known, rowsOf, document01, row74, row76, row78}
+use Rattle.rows.specs.Run.{refusal, runRow}
+use Rattle.readers.specs.Width.{widthOf}
+
+-- what the rows say of a code, for a first byte inside or outside
+abbrev pub Says : ℕ → ℕ → List ℕ → Answer
+Says a b bs = pick (known a) (runRow (document01 .rowAt a b) bs) (refusal 4 1)
+
+module _ (b : ℕ) (bs : List ℕ) where
+  -- of two first bytes: the even one has width B
+  abbrev Pair : (Width → ℕ → ℕ → Row) → ℕ → ℕ → Type 0
+  Pair r even a = runRow (r (widthOf (eqb a even)) (b / 16) (b % 16)) bs ≡ Says a b bs
+
+  pub in74 : (a : ℕ) → 0x74 ≤ a → a < 0x76 → Pair row74 0x74 a
+  unfolding known rowsOf
+  in74 = each-from (Pair row74 0x74) 0x74 2 ((tt, refl), refl)
+
+  pub in76 : (a : ℕ) → 0x76 ≤ a → a < 0x78 → Pair row76 0x76 a
+  unfolding known rowsOf
+  in76 = each-from (Pair row76 0x76) 0x76 2 ((tt, refl), refl)
+
+  pub in78 : (a : ℕ) → 0x78 ≤ a → a < 0x7A → Pair row78 0x78 a
+  unfolding known rowsOf
+  in78 = each-from (Pair row78 0x78) 0x78 2 ((tt, refl), refl)
+
+pub below : (a : ℕ) → a < 0x74 → known a ≡ false
+unfolding known
+below a h = rw (lt-ltb _ 0x74 h)
+
+pub above : (a : ℕ) → 0x7A ≤ a → (a ≡ 0x7A → ⊥) → (a ≡ 0x7B → ⊥) → (a ≡ 0x7C → ⊥) → (a ≡ 0x7D → ⊥) → (a ≡ 0x7E → ⊥) → (a ≡ 0xEB → ⊥) → known a ≡ false
+unfolding known
+above a g p q r s t u =
+    let h : 0x74 ≤ a = omega arith in
+    let k : 0x7E < a = past a g p q r s t in
+    rw (le-ltb _ 0x74 h, lt-leb _ _ k, ne-eqb _ 0xEB u)
+  where
+    past : (a : ℕ) → 0x7A ≤ a → (a ≡ 0x7A → ⊥) → (a ≡ 0x7B → ⊥) → (a ≡ 0x7C → ⊥) → (a ≡ 0x7D → ⊥) → (a ≡ 0x7E → ⊥) → 0x7E < a
+    past a g p q r s t = omega arith

@@ -1,0 +1,72 @@
+ghost use mathlib.Core.Path.{_≡_};
+ghost use mathlib.Core.List.{_∷_};
+ghost use lib.ListN.{drop};
+ghost use Rattle.tests.specs.Choice.{pick};
+ghost use Rattle.rows.specs.Rows.{known, document01};
+ghost use Rattle.rows.specs.Run.{decodeRows, refusal, runRow};
+use groups::op7A;
+use groups::op7B;
+use groups::op7C;
+use groups::op7D;
+use groups::op7E;
+use groups::op74;
+use groups::op76;
+use groups::op78;
+use groups::opEB;
+use readers::answer;
+use record::Answer;
+
+fn in_part(a: u8) -> bool
+    ensures { λ r. ⌜ r ≡ known a ⌝ }
+{
+    if a < 0x74 {
+        return false;
+    }
+    if a <= 0x7E {
+        return true;
+    }
+    a == 0xEB
+}
+
+// The group of a first byte, by the second byte b.
+fn decode_group(bs: &[u8], a: u8, b: u8) -> Answer
+    ensures { λ r. ⌜ r ≡ pick (known a) (runRow (document01 .rowAt a b) (now (bs .entry))) (refusal 4 1) ⌝ }
+{
+    match a {
+        0x74 | 0x75 => op74::decode_op74(bs, a == 0x74, b),
+        0x76 | 0x77 => op76::decode_op76(bs, a == 0x76, b),
+        0x78 | 0x79 => op78::decode_op78(bs, a == 0x78, b),
+        0x7A => op7A::decode_op7A(bs, b),
+        0x7B => op7B::decode_op7B(bs, b),
+        0x7C => op7C::decode_op7C(bs, b),
+        0x7D => op7D::decode_op7D(bs, b),
+        0x7E => op7E::decode_op7E(bs, b),
+        0xEB => opEB::decode_opEB(bs, b),
+        _ => answer::refuse(4, 1),
+    }
+}
+
+fn decode_bytes(bs: &[u8]) -> Answer
+    ensures { λ r. ⌜ r ≡ decodeRows (now (bs .entry)) ⌝ }
+{
+    if bs.len() < 2 {
+        if bs.len() == 0 {
+            return answer::refuse(1, 0);
+        }
+        if in_part(bs[0]) {
+            return answer::refuse(1, 1);
+        }
+        return answer::refuse(4, 1);
+    }
+    decode_group(bs, bs[0], bs[1])
+}
+
+// The instruction at a place of an image. A place at or past its end is an empty string: refusal 1, no byte taken.
+pub fn decode(image: &[u8], at: usize) -> Answer
+    ensures { λ r. ⌜ r ≡ decodeRows (drop at (now (image .entry))) ⌝ }
+{
+    if image.len() < at {
+        return answer::refuse(1, 0);
+    }
+    decode_bytes(&image[at..])
+}

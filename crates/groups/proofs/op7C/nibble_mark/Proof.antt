@@ -1,0 +1,16 @@
+-- `groups::op7C::nibble_mark` meets its contract.
+-- Assumes nothing.
+use Prim.Native.Nat.{_%_}
+use borrow.Author.Needs.{needs}
+use Rattle.groups.proofs.Table7C.{meant}
+use Rattle.groups.proofs.op7C.nibble_mark.Statement.{statement}
+use Rattle.groups.proofs.op7C.nibble_mark.Tie as tie
+
+returns : tie.Need-returns
+returns c = rw (c .if1 .taken) (meant (c .before .args .n % 16) (search needs))
+
+returns-2 : tie.Need-returns-2
+returns-2 c = rw (c .if1 .left)
+
+pub nibble-mark-spec : {M : Type 1} → statement M
+nibble-mark-spec = tie.close (tie.spec (λ c. search needs) (λ c. search needs) (λ c. search needs) (λ c. search needs) returns returns-2)

@@ -1,0 +1,11 @@
+-- The face of a row of 7E.
+use mathlib.Core.Bool.{false}
+use Rattle.record.specs.declared.Opcode.{Opcode}
+use Rattle.record.specs.declared.Size.the-variants as size
+use Rattle.record.specs.declared.Width.the-variants.{None}
+use Rattle.record.specs.declared.Operand.{Operand}
+use Rattle.record.specs.declared.Operand.the-variants.{Nothing}
+use Rattle.rows.specs.Row.{Face}
+
+abbrev pub bitFace : Opcode → Operand → Face
+bitFace o a = record { opcode = o; size = size.None; width = None; op0 = a; op1 = Nothing; marked = false }

@@ -1,0 +1,13 @@
+// The nine groups of the Rust, a file each: what stands behind a first byte, by the second byte b.
+pub mod op74; // 74 and 75
+pub mod op76; // 76 and 77
+pub mod op78; // 78 and 79
+pub mod op7A;
+pub mod op7B;
+pub mod op7C;
+pub mod op7D;
+pub mod op7E;
+pub mod opEB;
+mod mul; // the destinations that MUL and MULU refuse
+mod exchange; // XCHG of 7A and 7B
+mod shared; // what 7C and 7D have together

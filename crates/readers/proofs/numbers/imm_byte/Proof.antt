@@ -1,0 +1,16 @@
+-- `readers::numbers::imm_byte` meets its contract.
+-- Assumes nothing.
+use native.Mathlib.Omega.{arith}
+use borrow.Author.Needs.{needs}
+use Rattle.rows.proofs.Reading.{unread, imm1}
+use Rattle.readers.proofs.numbers.imm_byte.Statement.{statement}
+use Rattle.readers.proofs.numbers.imm_byte.Tie as tie
+
+returns : tie.Need-returns
+returns c = unread _ _ 1 _ (omega arith)
+
+returns-2 : tie.Need-returns-2
+returns-2 c = imm1 _ _ (omega arith) (c .small .ensures)
+
+pub imm-byte-spec : {M : Type 1} → statement M
+imm-byte-spec = tie.close (tie.spec returns (λ c. search needs) (λ c κs. search needs) (λ c. search needs) returns-2)

@@ -1,0 +1,101 @@
+ghost use mathlib.Core.Path.{_≡_};
+ghost use Rattle.rows.specs.Rows.{sizeOf};
+ghost use Rattle.rows.specs.Run.{accepted, begun, refusal};
+ghost use Rattle.readers.specs.Width.{widthOf};
+use record::Answer;
+use record::Opcode;
+use record::Operand;
+use record::Record;
+use record::Size;
+use record::Width;
+use rows::Seen;
+
+// An accepted answer: the record, whose length is the bytes taken.
+pub fn accept(
+    opcode: Opcode,
+    size: Size,
+    width: Width,
+    op0: Operand,
+    op1: Operand,
+    marked: bool,
+    s: Seen,
+) -> Answer
+    ensures { λ r. ⌜ r ≡ accepted opcode size width op0 op1 marked s ⌝ }
+{
+    let r = Record {
+        imm_wide: s.imm_wide,
+        dispabs: s.dispabs,
+        first: s.first,
+        length: s.taken,
+        opcode: opcode,
+        size: size,
+        width: width,
+        op0: op0,
+        op1: op1,
+        op2: Operand::Nothing,
+        marked: marked,
+    };
+    Answer {
+        inst: r,
+        taken: s.taken,
+        refusal: 0,
+    }
+}
+
+// A refusal: its number, the bytes taken and the blank record.
+pub fn refuse(no: u8, taken: usize) -> Answer
+    ensures { λ r. ⌜ r ≡ refusal no taken ⌝ }
+{
+    let r = Record {
+        imm_wide: 0,
+        dispabs: 0,
+        first: 0,
+        length: 0,
+        opcode: Opcode::NOP,
+        size: Size::None,
+        width: Width::None,
+        op0: Operand::Nothing,
+        op1: Operand::Nothing,
+        op2: Operand::Nothing,
+        marked: false,
+    };
+    Answer {
+        inst: r,
+        taken: taken,
+        refusal: no,
+    }
+}
+
+// The width of an even first byte is B, of an odd one W.
+pub fn width_of(byte: bool) -> Width
+    ensures { λ r. ⌜ r ≡ widthOf byte ⌝ }
+{
+    if byte { Width::B } else { Width::W }
+}
+
+// The size that an opcode of that width carries.
+pub fn size_of(byte: bool) -> Size
+    ensures { λ r. ⌜ r ≡ sizeOf (widthOf byte) ⌝ }
+{
+    if byte { Size::B } else { Size::W }
+}
+
+// What a row begins with: two bytes were taken.
+pub const BEGIN: Seen = Seen {
+    imm_wide: 0,
+    dispabs: 0,
+    first: 0,
+    taken: 2,
+};
+
+// The same where a number is part of the code.
+pub fn begin(number: u32) -> Seen
+    ensures { λ r. ⌜ r ≡ begun number ⌝ }
+{
+    Seen {
+        imm_wide: number,
+        dispabs: 0,
+        first: 0,
+        taken: 2,
+    }
+}

@@ -1,0 +1,67 @@
+ghost use mathlib.Core.Path.{_≡_};
+ghost use Prim.Native.Nat.{_%_};
+ghost use Rattle.rows.specs.Row.{disp};
+ghost use Rattle.rows.specs.Codes.{nameG, sizeG};
+ghost use Rattle.rows.specs.Run.{reading};
+ghost use Rattle.readers.specs.Width.{widthOf};
+use crate::numbers;
+use record::Operand;
+use rows::Got;
+use rows::Seen;
+
+// Registers at W, then at B: one table, so that a width picks a place in it and no table is copied twice.
+const NAMES: [Operand; 32] = [
+    Operand::R0,
+    Operand::R1,
+    Operand::R2,
+    Operand::R3,
+    Operand::A0,
+    Operand::A1,
+    Operand::Deref_A0,
+    Operand::Deref_A1,
+    Operand::Disp8_A0,
+    Operand::Disp8_A1,
+    Operand::Disp8_SB,
+    Operand::Disp8_FB,
+    Operand::Disp16_A0,
+    Operand::Disp16_A1,
+    Operand::Disp16_SB,
+    Operand::Abs16,
+    Operand::R0L,
+    Operand::R0H,
+    Operand::R1L,
+    Operand::R1H,
+    Operand::A0,
+    Operand::A1,
+    Operand::Deref_A0,
+    Operand::Deref_A1,
+    Operand::Disp8_A0,
+    Operand::Disp8_A1,
+    Operand::Disp8_SB,
+    Operand::Disp8_FB,
+    Operand::Disp16_A0,
+    Operand::Disp16_A1,
+    Operand::Disp16_SB,
+    Operand::Abs16,
+];
+
+// G(code): its name, by the low nibble.
+pub fn general_name(byte: bool, code: u8) -> Operand
+    ensures { λ r. ⌜ r ≡ nameG (widthOf byte) (code % 16) ⌝ }
+{
+    let n = (code % 16) as usize;
+    if byte { NAMES[16 + n] } else { NAMES[n] }
+}
+
+// G(code): its displacement, none below 8, one byte below 12, two from there.
+pub fn general(bs: &[u8], s: Seen, code: u8) -> Got
+    ensures { λ r. ⌜ r ≡ reading (disp (sizeG code)) (now (bs .entry)) s ⌝ }
+{
+    if code < 8 {
+        return Got::On(s);
+    }
+    if code < 12 {
+        return numbers::disp_byte(bs, s);
+    }
+    numbers::disp_word(bs, s)
+}

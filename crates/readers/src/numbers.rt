@@ -1,0 +1,146 @@
+// The Rust's read_imm, low byte first, once for each number of bytes that a row reads.
+ghost use mathlib.Core.Path.{_≡_};
+ghost use Prim.Native.Nat.{_+_, _*_, _%_};
+ghost use Rattle.rows.specs.Row.{disp, imm, imm20};
+ghost use Rattle.rows.specs.Codes.{nameI, sizeI};
+ghost use Rattle.rows.specs.Run.{reading};
+ghost use Rattle.readers.specs.Width.{widthOf};
+use record::Operand;
+use rows::Got;
+use rows::Seen;
+
+fn wide(x: u8) -> u16
+    ensures { λ r. ⌜ r ≡ x ⌝ }
+{
+    x as u16
+}
+
+fn word(low: u8, high: u8) -> u16
+    ensures { λ r. ⌜ r ≡ low + 256 * high ⌝ }
+{
+    (low as u16) + 256 * (high as u16)
+}
+
+fn small(x: u8) -> u32
+    ensures { λ r. ⌜ r ≡ x % 256 ⌝ }
+{
+    x as u32
+}
+
+fn large(low: u8, high: u8) -> u32
+    ensures { λ r. ⌜ r ≡ (low + 256 * high) % 65536 ⌝ }
+{
+    (low as u32) + 256 * (high as u32)
+}
+
+// The last byte's upper nibble is dropped.
+fn three(a: u8, b: u8, c: u8) -> u32
+    ensures { λ r. ⌜ r ≡ (a + 256 * (b + 256 * c)) % 1048576 ⌝ }
+{
+    (a as u32) + 256 * (b as u32) + 65536 * ((c % 16) as u32)
+}
+
+// One byte into dispabs; first keeps what it had.
+pub fn disp_byte(bs: &[u8], s: Seen) -> Got
+    ensures { λ r. ⌜ r ≡ reading (disp 1) (now (bs .entry)) s ⌝ }
+{
+    let at = s.taken;
+    if bs.len() <= at {
+        return Got::Short;
+    }
+    Got::On(Seen {
+        imm_wide: s.imm_wide,
+        dispabs: wide(bs[at]),
+        first: s.dispabs,
+        taken: at + 1,
+    })
+}
+
+// Two bytes into dispabs.
+pub fn disp_word(bs: &[u8], s: Seen) -> Got
+    ensures { λ r. ⌜ r ≡ reading (disp 2) (now (bs .entry)) s ⌝ }
+{
+    let at = s.taken;
+    if bs.len() < 2 {
+        return Got::Short;
+    }
+    if bs.len() - 2 < at {
+        return Got::Short;
+    }
+    Got::On(Seen {
+        imm_wide: s.imm_wide,
+        dispabs: word(bs[at], bs[at + 1]),
+        first: s.dispabs,
+        taken: at + 2,
+    })
+}
+
+// One byte into imm_wide.
+pub fn imm_byte(bs: &[u8], s: Seen) -> Got
+    ensures { λ r. ⌜ r ≡ reading (imm 1) (now (bs .entry)) s ⌝ }
+{
+    let at = s.taken;
+    if bs.len() <= at {
+        return Got::Short;
+    }
+    Got::On(Seen {
+        imm_wide: small(bs[at]),
+        dispabs: s.dispabs,
+        first: s.first,
+        taken: at + 1,
+    })
+}
+
+// Two bytes into imm_wide.
+pub fn imm_word(bs: &[u8], s: Seen) -> Got
+    ensures { λ r. ⌜ r ≡ reading (imm 2) (now (bs .entry)) s ⌝ }
+{
+    let at = s.taken;
+    if bs.len() < 2 {
+        return Got::Short;
+    }
+    if bs.len() - 2 < at {
+        return Got::Short;
+    }
+    Got::On(Seen {
+        imm_wide: large(bs[at], bs[at + 1]),
+        dispabs: s.dispabs,
+        first: s.first,
+        taken: at + 2,
+    })
+}
+
+// L: three bytes into imm_wide, 20 bits of them.
+pub fn long20(bs: &[u8], s: Seen) -> Got
+    ensures { λ r. ⌜ r ≡ reading imm20 (now (bs .entry)) s ⌝ }
+{
+    let at = s.taken;
+    if bs.len() < 3 {
+        return Got::Short;
+    }
+    if bs.len() - 3 < at {
+        return Got::Short;
+    }
+    Got::On(Seen {
+        imm_wide: three(bs[at], bs[at + 1], bs[at + 2]),
+        dispabs: s.dispabs,
+        first: s.first,
+        taken: at + 3,
+    })
+}
+
+// I: one byte at B, two at W.
+pub fn immediate(bs: &[u8], byte: bool, s: Seen) -> Got
+    ensures { λ r. ⌜ r ≡ reading (imm (sizeI (widthOf byte))) (now (bs .entry)) s ⌝ }
+{
+    if byte {
+        return imm_byte(bs, s);
+    }
+    imm_word(bs, s)
+}
+
+pub fn immediate_name(byte: bool) -> Operand
+    ensures { λ r. ⌜ r ≡ nameI (widthOf byte) ⌝ }
+{
+    if byte { Operand::Imm8 } else { Operand::Imm16 }
+}

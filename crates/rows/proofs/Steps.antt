@@ -1,0 +1,57 @@
+-- How a row's reads go on, in the form that a group's calls give: what a call ensures, and which case its answer is.
+-- Assumes nothing.
+use Prim.Native.Nat.{ℕ, _+_, _≤_, _<_}
+use mathlib.Core.Path.{_≡_, refl, sym, ap, _∙_}
+use mathlib.Core.Bool.{Bool}
+use mathlib.Core.List.{List, [], _∷_}
+use lib.ListN.{length, getD}
+use borrow.Author.Tests.{lt-ltb, le-ltb}
+use Rattle.record.specs.declared.Answer.{Answer}
+use Rattle.record.specs.declared.Opcode.{Opcode}
+use Rattle.record.specs.declared.Size.{Size}
+use Rattle.record.specs.declared.Width.{Width}
+use Rattle.record.specs.declared.Operand.{Operand}
+use Rattle.rows.specs.declared.Seen.{Seen}
+use Rattle.rows.specs.declared.Got.{Got}
+use Rattle.rows.specs.declared.Got.the-variants.{On, Short}
+use Rattle.rows.specs.Row.{Num, Refusal, refusalNo, Read, num, stop, cond, Condition, is, isnt, Face}
+use Rattle.rows.specs.Codes.{condOf}
+use Rattle.rows.specs.Run.{reading, andThen, accepted, refusal, renamed, past, run}
+
+module _ (k : Num) (bs : List ℕ) (f : Face) (s : Seen) {g : Got} (h : g ≡ reading k bs s) {x : Answer} (rs : List Read) where
+  -- a read that finds too little ends the row
+  pub ends : g ≡ Short → x ≡ refusal 1 (length bs) → x ≡ run (num k ∷ rs) bs f s
+  unfolding run
+  ends e j = j ∙ ap (λ y. andThen bs y (run rs bs f)) (sym e ∙ h)
+
+  -- one that does not hands its numbers on
+  pub goes : {t : Seen} → g ≡ On t → x ≡ run rs bs f t → x ≡ run (num k ∷ rs) bs f s
+  unfolding run
+  goes e j = j ∙ ap (λ y. andThen bs y (run rs bs f)) (sym e ∙ h)
+
+pub stops : (e : Refusal) (rs : List Read) (bs : List ℕ) (f : Face) (s : Seen) {x : Answer} → x ≡ refusal (refusalNo e) (s .taken) → x ≡ run (stop e ∷ rs) bs f s
+unfolding run
+stops e rs bs f s h = h
+
+-- the record is made once, of the row's names
+pub done : (bs : List ℕ) (f : Face) (s : Seen) {x : Answer} {o : Opcode} {z : Size} {w : Width} {a b : Operand} {m : Bool}
+    → x ≡ accepted o z w a b m s → o ≡ f .opcode → z ≡ f .size → w ≡ f .width → a ≡ f .op0 → b ≡ f .op1 → m ≡ f .marked → x ≡ run [] bs f s
+unfolding run
+done bs f s {x} {o} {z} {w} {a} {b} {m} e ho hz hw ha hb hm =
+    e ∙ ap (λ y. accepted y z w a b m s) ho ∙ ap (λ y. accepted (f .opcode) y w a b m s) hz ∙ ap (λ y. accepted (f .opcode) (f .size) y a b m s) hw
+    ∙ ap (λ y. accepted (f .opcode) (f .size) (f .width) y b m s) ha ∙ ap (λ y. accepted (f .opcode) (f .size) (f .width) (f .op0) y m s) hb
+    ∙ ap (λ y. accepted (f .opcode) (f .size) (f .width) (f .op0) (f .op1) y s) hm
+
+-- the condition byte
+module _ (bs : List ℕ) (f : Face) (s : Seen) {x : Answer} (rs : List Read) where
+  pub unread : length bs ≤ s .taken → x ≡ refusal 1 (length bs) → x ≡ run (cond ∷ rs) bs f s
+  unfolding run
+  unread h k = rw (le-ltb _ _ h) k
+
+  pub holds : {o : Opcode} → s .taken < length bs → condOf (getD bs (s .taken) 0) ≡ is o → x ≡ run rs bs (renamed o f) (past s) → x ≡ run (cond ∷ rs) bs f s
+  unfolding run
+  holds h e k = rw (lt-ltb _ _ h, e) k
+
+  pub fails : s .taken < length bs → condOf (getD bs (s .taken) 0) ≡ isnt → x ≡ refusal 2 (s .taken + 1) → x ≡ run (cond ∷ rs) bs f s
+  unfolding run
+  fails h e k = rw (lt-ltb _ _ h, e) k

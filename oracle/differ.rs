@@ -1,0 +1,388 @@
+// The differential run: the port and the Rust on the same bytes, every field that the Rust has.
+// usage: differ [--all]
+
+use std::env;
+use std::fmt::Write;
+use std::process::ExitCode;
+use std::sync::atomic::{AtomicUsize, Ordering};
+use std::thread;
+
+const THREADS: usize = 2;
+const FIRST_BYTES: [u8; 12] = [0x74, 0x75, 0x76, 0x77, 0x78, 0x79, 0x7A, 0x7B, 0x7C, 0x7D, 0x7E, 0xEB];
+const SEED: u64 = 0x6D31_3663_2031_3938;
+const TOO_LITTLE_ROOM: u32 = 6;
+
+extern "C" {
+    fn m16c_decode(image: *const u8, image_len: usize, at: usize, out: *mut u32, out_len: usize) -> u32;
+}
+
+// ---- What is compared
+
+const FIELDS: usize = 12;
+#[rustfmt::skip]
+const FIELD_NAMES: [&str; FIELDS] = [
+    "taken", "opcode", "size", "width", "operand 0", "operand 1", "operand 2", "imm_wide", "dispabs", "first", "length",
+    "marked",
+];
+const FIRST: usize = 9;
+const MARKED: usize = 11;
+// What an accepted answer is free in, because the Rust does not have it, with the greatest number that fits.
+const FREE_FIELDS: [(usize, u32); 2] = [(FIRST, 0xFFFF), (MARKED, 1)];
+
+#[derive(Clone, PartialEq, Eq)]
+struct Answer {
+    refusal: u32,
+    fields: [u32; FIELDS],
+}
+
+/// What the port has to answer, by the Rust; 0 in the fields that the Rust does not have.
+fn expected(bytes: &[u8]) -> Answer {
+    let rust = oracle::answer(bytes);
+    let accepted = rust.refusal == oracle::ACCEPTED;
+    let [op0, op1, op2] = rust.operands.map(u32::from);
+    Answer {
+        refusal: rust.refusal.into(),
+        fields: [
+            rust.taken as u32,
+            rust.opcode.into(),
+            rust.size.into(),
+            if accepted { width_number(bytes[0]) } else { 0 },
+            op0,
+            op1,
+            op2,
+            rust.imm_wide,
+            rust.dispabs.into(),
+            0,
+            rust.length.into(),
+            0,
+        ],
+    }
+}
+
+fn width_number(first: u8) -> u32 {
+    match first {
+        0x74 | 0x76 | 0x78 | 0x7A | 0x7C => 1,
+        0x75 | 0x77 | 0x79 | 0x7B | 0x7D => 2,
+        _ => 0,
+    }
+}
+
+// Stands in the buffer before each call: a number that no field can hold, so that a field left out is seen.
+const UNWRITTEN: u32 = 0xDEAD_BEEF;
+
+fn ported(image: &[u8], at: usize) -> Answer {
+    let mut fields = [UNWRITTEN; FIELDS];
+    let refusal = decode_into(image, at, &mut fields);
+    Answer { refusal, fields }
+}
+
+fn decode_into(image: &[u8], at: usize, out: &mut [u32]) -> u32 {
+    unsafe { m16c_decode(image.as_ptr(), image.len(), at, out.as_mut_ptr(), out.len()) }
+}
+
+/// The port's answer with 0 in what it is free in.
+fn judged(rust: &Answer, port: &Answer) -> Answer {
+    let mut judged = port.clone();
+    if rust.refusal == u32::from(oracle::ACCEPTED) {
+        for (field, greatest) in FREE_FIELDS {
+            if judged.fields[field] <= greatest {
+                judged.fields[field] = 0;
+            }
+        }
+    }
+    judged
+}
+
+// ---- Counting, and keeping the first difference
+
+#[derive(Default)]
+struct Tally {
+    compared: u64,
+    different: u64,
+    first_difference: Option<String>,
+}
+
+impl Tally {
+    /// Compares the answers for the bytes of `image` from `at` on.
+    fn compare(&mut self, image: &[u8], at: usize) -> Answer {
+        let rust = expected(image.get(at..).unwrap_or(&[]));
+        let port = ported(image, at);
+        self.count(judged(&rust, &port) == rust, || describe(image, at, &rust, &port));
+        rust
+    }
+
+    fn count(&mut self, same: bool, describe: impl FnOnce() -> String) {
+        self.compared += 1;
+        if !same {
+            self.different += 1;
+            self.first_difference.get_or_insert_with(describe);
+        }
+    }
+
+    /// Adds what came after.
+    fn add(&mut self, later: Tally) {
+        self.compared += later.compared;
+        self.different += later.different;
+        self.first_difference = self.first_difference.take().or(later.first_difference);
+    }
+}
+
+fn describe(image: &[u8], at: usize, rust: &Answer, port: &Answer) -> String {
+    let judged = judged(rust, port);
+    let mut text = format!("place {at} of {}\n", hex(image));
+    let mut line = |name: &str, rust: u32, port: u32, same: bool| {
+        let sign = if same { ' ' } else { '*' };
+        writeln!(text, "  {sign} {name:10} Rust {rust:8X}   port {port:8X}").unwrap();
+    };
+    line("refusal", rust.refusal, port.refusal, rust.refusal == port.refusal);
+    for (field, name) in FIELD_NAMES.iter().enumerate() {
+        let wanted = rust.fields[field];
+        line(name, wanted, port.fields[field], wanted == judged.fields[field]);
+    }
+    text += "  (in hex; `first` and `marked` the Rust does not have, it shows 0 for them)\n";
+    text
+}
+
+fn hex(bytes: &[u8]) -> String {
+    if bytes.is_empty() {
+        return "no bytes".to_string();
+    }
+    bytes.iter().map(|byte| format!("{byte:02X}")).collect::<Vec<String>>().join(" ")
+}
+
+// ---- The kinds of strings
+
+/// Strings of one kind, in parts that do not depend on each other: the outcome is the same however threads share them.
+struct Kind {
+    name: &'static str,
+    quick_parts: usize,
+    all_parts: usize,
+    run_part: fn(usize, &mut Tally),
+}
+
+const CODES: usize = FIRST_BYTES.len() * 256;
+
+#[rustfmt::skip]
+const KINDS: &[Kind] = &[
+    Kind { name: "0 to 3 bytes, every one", quick_parts: 257, all_parts: 257, run_part: short_strings },
+    Kind { name: "4 bytes, every one of the twelve first bytes", quick_parts: 0, all_parts: CODES, run_part: four_bytes },
+    Kind { name: "5 to 9 bytes, at random", quick_parts: 100, all_parts: 1000, run_part: random_strings },
+    Kind { name: "accepted, cut short", quick_parts: 100, all_parts: 1000, run_part: cut_strings },
+    Kind { name: "accepted, one byte damaged", quick_parts: 100, all_parts: 1000, run_part: damaged_strings },
+    Kind { name: "places in an image, at its end and past it", quick_parts: 100, all_parts: 1000, run_part: places_in_images },
+    Kind { name: "buffers too short or too long", quick_parts: CODES, all_parts: CODES, run_part: buffers },
+];
+
+const STRINGS_IN_A_PART: usize = 10_000;
+const IMAGES_IN_A_PART: usize = 100;
+
+/// Part 256 is the empty string, each other a first byte.
+fn short_strings(part: usize, tally: &mut Tally) {
+    let Ok(first) = u8::try_from(part) else {
+        tally.compare(&[], 0);
+        return;
+    };
+    tally.compare(&[first], 0);
+    for second in 0..=255 {
+        tally.compare(&[first, second], 0);
+        for third in 0..=255 {
+            tally.compare(&[first, second, third], 0);
+        }
+    }
+}
+
+/// First and second byte of a code, by its number.
+fn code_of(number: usize) -> (u8, u8) {
+    (FIRST_BYTES[number / 256], (number % 256) as u8)
+}
+
+/// A part is a code.
+fn four_bytes(part: usize, tally: &mut Tally) {
+    let (first, second) = code_of(part);
+    for third in 0..=255 {
+        for fourth in 0..=255 {
+            tally.compare(&[first, second, third, fourth], 0);
+        }
+    }
+}
+
+fn random_strings(part: usize, tally: &mut Tally) {
+    let mut random = Random::of("random", part);
+    for _ in 0..STRINGS_IN_A_PART {
+        tally.compare(&random.string(), 0);
+    }
+}
+
+fn cut_strings(part: usize, tally: &mut Tally) {
+    let mut random = Random::of("cut", part);
+    for _ in 0..STRINGS_IN_A_PART {
+        let string = random.accepted_string();
+        let kept = random.below(string.len());
+        tally.compare(&string[..kept], 0);
+    }
+}
+
+fn damaged_strings(part: usize, tally: &mut Tally) {
+    let mut random = Random::of("damaged", part);
+    for _ in 0..STRINGS_IN_A_PART {
+        let mut string = random.accepted_string();
+        let place = random.below(string.len());
+        string[place] ^= 1 + random.below(255) as u8;
+        tally.compare(&string, 0);
+    }
+}
+
+// The image lies inside other bytes, so that reading past its end would be seen.
+fn places_in_images(part: usize, tally: &mut Tally) {
+    const AROUND: usize = 16;
+    let mut random = Random::of("places", part);
+    for _ in 0..IMAGES_IN_A_PART {
+        let length = random.below(100);
+        let bytes = random.code(length + 2 * AROUND);
+        let image = &bytes[AROUND..AROUND + length];
+        let past = [length, length + 1, length + AROUND, usize::MAX - 1, usize::MAX];
+        for at in (0..length).chain(past) {
+            tally.compare(image, at);
+        }
+    }
+}
+
+// Twelve numbers are written or none, and none behind them. A part is a code.
+fn buffers(part: usize, tally: &mut Tally) {
+    const LONGEST_BUFFER: usize = 16;
+    let (first, second) = code_of(part);
+    let string = [first, second, 0, 0, 0, 0, 0];
+    let answer = ported(&string, 0);
+    for room in (0..FIELDS).chain(FIELDS + 1..=LONGEST_BUFFER) {
+        let mut wanted = [UNWRITTEN; LONGEST_BUFFER];
+        let mut wanted_refusal = TOO_LITTLE_ROOM;
+        if room >= FIELDS {
+            wanted[..FIELDS].copy_from_slice(&answer.fields);
+            wanted_refusal = answer.refusal;
+        }
+        let mut buffer = [UNWRITTEN; LONGEST_BUFFER];
+        let refusal = decode_into(&string, 0, &mut buffer[..room]);
+        tally.count(refusal == wanted_refusal && buffer == wanted, || {
+            let bytes = hex(&string);
+            format!("{bytes} with room for {room} numbers\n  wanted {wanted_refusal} {wanted:X?}\n  port   {refusal} {buffer:X?}\n")
+        });
+    }
+}
+
+struct Random(u64);
+
+impl Random {
+    /// A kind's part has a sequence of its own.
+    fn of(kind: &str, part: usize) -> Random {
+        let name = kind.bytes().fold(SEED, |sum, byte| sum.wrapping_mul(31).wrapping_add(byte.into()));
+        Random(name.wrapping_add(part as u64))
+    }
+
+    // splitmix64, which takes any start
+    fn next(&mut self) -> u64 {
+        self.0 = self.0.wrapping_add(0x9E37_79B9_7F4A_7C15);
+        let mut mixed = self.0;
+        mixed = (mixed ^ (mixed >> 30)).wrapping_mul(0xBF58_476D_1CE4_E5B9);
+        mixed = (mixed ^ (mixed >> 27)).wrapping_mul(0x94D0_49BB_1331_11EB);
+        mixed ^ (mixed >> 31)
+    }
+
+    fn below(&mut self, bound: usize) -> usize {
+        (self.next() % bound as u64) as usize
+    }
+
+    fn byte(&mut self) -> u8 {
+        self.next() as u8
+    }
+
+    fn first_byte(&mut self) -> u8 {
+        FIRST_BYTES[self.below(FIRST_BYTES.len())]
+    }
+
+    fn string(&mut self) -> Vec<u8> {
+        let length = 5 + self.below(5);
+        let first = self.first_byte();
+        std::iter::once(first).chain((1..length).map(|_| self.byte())).collect()
+    }
+
+    /// Without the bytes behind the instruction, so that every cut takes something away.
+    fn accepted_string(&mut self) -> Vec<u8> {
+        loop {
+            let mut string = self.string();
+            let answer = oracle::answer(&string);
+            if answer.refusal == oracle::ACCEPTED {
+                string.truncate(answer.taken);
+                return string;
+            }
+        }
+    }
+
+    /// Half of the bytes are first bytes, so that most places decode.
+    fn code(&mut self, length: usize) -> Vec<u8> {
+        (0..length).map(|_| if self.below(2) == 0 { self.first_byte() } else { self.byte() }).collect()
+    }
+}
+
+// ---- Running
+
+fn main() -> ExitCode {
+    let options: Vec<String> = env::args().skip(1).collect();
+    let all = match options.as_slice() {
+        [] => false,
+        [option] if option == "--all" => true,
+        _ => {
+            eprintln!("usage: differ [--all]");
+            return ExitCode::from(2);
+        }
+    };
+    println!("{:>13} {:>13}  strings", "compared", "different");
+    let mut total = Tally::default();
+    for kind in KINDS {
+        let parts = if all { kind.all_parts } else { kind.quick_parts };
+        if parts == 0 {
+            continue;
+        }
+        let tally = run(kind, parts);
+        print_line(&tally, kind.name);
+        total.add(tally);
+    }
+    print_line(&total, "together");
+    match total.first_difference {
+        None => ExitCode::SUCCESS,
+        Some(text) => {
+            print!("the first difference: {text}");
+            ExitCode::FAILURE
+        }
+    }
+}
+
+fn print_line(tally: &Tally, name: &str) {
+    println!("{:13} {:13}  {name}", tally.compared, tally.different);
+}
+
+fn run(kind: &Kind, parts: usize) -> Tally {
+    let next_part = AtomicUsize::new(0);
+    let mut done: Vec<(usize, Tally)> = thread::scope(|scope| {
+        let threads: Vec<_> = (0..THREADS).map(|_| scope.spawn(|| take_parts(kind, parts, &next_part))).collect();
+        threads.into_iter().flat_map(|thread| thread.join().expect("the Rust panicked")).collect()
+    });
+    done.sort_by_key(|(part, _)| *part);
+    let mut total = Tally::default();
+    for (_, tally) in done {
+        total.add(tally);
+    }
+    total
+}
+
+fn take_parts(kind: &Kind, parts: usize, next_part: &AtomicUsize) -> Vec<(usize, Tally)> {
+    let mut done = Vec::new();
+    loop {
+        let part = next_part.fetch_add(1, Ordering::Relaxed);
+        if part >= parts {
+            return done;
+        }
+        let mut tally = Tally::default();
+        (kind.run_part)(part, &mut tally);
+        done.push((part, tally));
+    }
+}
