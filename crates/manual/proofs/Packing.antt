@@ -11,7 +11,7 @@ use Rattle.record.specs.Numbers.{operandNo}
 use Rattle.manual.specs.Meaning.{Suffix, none, B, W, L, A, plus, minus, Spot, nothing, plain, behind, within, carry, counter, flag, Meaning, Entry, meaning, empty}
 use Rattle.manual.specs.Bits.{Condition, is, isnt}
 use Rattle.manual.specs.Packed.{suffixNo, digits, spotNo, packed, packedCondition}
-use Rattle.record.proofs.Numbers.{operandAt, operand-at, opcodes-apart}
+use Rattle.record.proofs.Apart.{operandAt, operand-at, opcodes-apart}
 
 -- the numbers whose digits an operand's number is made of
 record Parts : Type 0 where
@@ -110,7 +110,7 @@ suffix-back A = refl
 
 -- what of an entry's numbers has no room in their digits: 0 where all fit. (The mnemonic comes first, so it has room.)
 unfoldable pub over : Entry → ℕ
-unfolding overParts parts operandNo suffixNo
+unfolding overParts parts suffixNo
 over (meaning m) = suffixNo (m .suffix) / 10 + overParts (parts (m .op0)) + overParts (parts (m .op1)) + m .length / 10
 over empty = 0
 

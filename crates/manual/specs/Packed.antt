@@ -17,7 +17,7 @@ unfoldable pub digits : ℕ → ℕ → ℕ → ℕ → ℕ → ℕ
 digits kind name start count number = (((kind * 100 + name) * 10 + start) * 10 + count) * 100 + number
 
 unfoldable pub spotNo : Spot → ℕ
-unfolding operandNo digits
+unfolding digits
 spotNo nothing = digits 0 0 0 0 0
 spotNo (plain o) = digits 1 (operandNo o) 0 0 0
 spotNo (behind o start count) = digits 2 (operandNo o) start count 0
@@ -28,12 +28,11 @@ spotNo counter = digits 6 0 0 0 0
 spotNo (flag k) = digits 7 0 0 0 k
 
 unfoldable pub packed : Entry → ℕ
-unfolding opcodeNo suffixNo spotNo
+unfolding suffixNo spotNo
 packed (meaning m) = ((((100 + opcodeNo (m .mnemonic)) * 10 + suffixNo (m .suffix)) * 10_000_000 + spotNo (m .op0)) * 10_000_000 + spotNo (m .op1)) * 10 + m .length
 packed empty = 0
 
 -- a condition byte's instruction, 1 + its number, or 0
 unfoldable pub packedCondition : Condition → ℕ
-unfolding opcodeNo
 packedCondition (is o) = 1 + opcodeNo o
 packedCondition isnt = 0

@@ -1,2 +1,2 @@
-pub mod Numbers
+pub mod Apart
 pub mod Same

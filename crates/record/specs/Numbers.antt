@@ -9,7 +9,7 @@ use Rattle.record.specs.declared.Width.the-variants as width
 use Rattle.record.specs.declared.Operand.{Operand}
 use Rattle.record.specs.declared.Operand.the-variants.{Nothing, Imm4, Imm8, Imm16, R0L, R0H, R1L, R1H, R0, R1, R2, R3, R2R0, R3R1, A0, A1, A1A0, «Bit_R0», «Bit_R1», «Bit_R2», «Bit_R3», «Bit_A0», «Bit_A1», «Bit_Deref_A0», «Bit_Deref_A1», «Bit_Disp8_A0», «Bit_Disp8_A1», «Bit_Disp8_SB», «Bit_Disp8_FB», «Bit_Disp16_A0», «Bit_Disp16_A1», «Bit_Disp16_SB», «Bit_Abs16», «Disp8_A0», «Disp8_A1», «Disp8_SB», «Disp8_FB», «Disp8_SP», «Disp16_A0», «Disp16_A1», «Disp16_SB», «Disp20_A0», «Disp20_A1», «Deref_A0», «Deref_A1», «Deref_A1A0», Abs16, Abs20, Disp8, RegList, INTBL, INTBH, FLG, ISP, SP, SB, FB}
 
-unfoldable pub opcodeNo : Opcode → ℕ
+abbrev pub opcodeNo : Opcode → ℕ
 opcodeNo NOP = 0
 opcodeNo ABS = 1
 opcodeNo ADC = 2
@@ -109,18 +109,18 @@ opcodeNo WAIT = 95
 opcodeNo XCHG = 96
 opcodeNo XOR = 97
 
-unfoldable pub sizeNo : Size → ℕ
+abbrev pub sizeNo : Size → ℕ
 sizeNo size.None = 0
 sizeNo size.B = 1
 sizeNo size.W = 2
 sizeNo size.L = 3
 
-unfoldable pub widthNo : Width → ℕ
+abbrev pub widthNo : Width → ℕ
 widthNo width.None = 0
 widthNo width.B = 1
 widthNo width.W = 2
 
-unfoldable pub operandNo : Operand → ℕ
+abbrev pub operandNo : Operand → ℕ
 operandNo Nothing = 0
 operandNo Imm4 = 1
 operandNo Imm8 = 2

@@ -14,7 +14,6 @@ use Rattle.record.specs.Numbers.{operandNo}
 use Rattle.tests.specs.Choice.{pick}
 
 unfoldable pub is : Operand → Operand → Bool
-unfolding operandNo
 is a b = eqb (operandNo a) (operandNo b)
 
 unfoldable pub among : List Operand → Operand → Bool

@@ -1,6 +1,8 @@
 // What an instruction is, and what a decoder answers: names, numbers and nothing else.
 // Names are spelled as in the Rust and in document 01. `NOP`, `None` and `Nothing` stand first: they are what the blank record holds.
 
+pub mod numbers; // the number of each name
+
 pub enum Opcode {
     NOP,
     ABS,

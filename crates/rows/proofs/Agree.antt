@@ -62,7 +62,7 @@ right : ℕ → ℕ → Bool
 right a b = judged (eqb (fate (document01 .rowAt a b .reads)) 0) (document01 .rowAt a b .face .marked) a b (document01 .rowAt a b) (entryAt a b)
 
 all-right : T (everyCode right)
-unfolding everyCode right judged refusedRight markedRight unmarkedRight same roomy said sized widthNo over packed entryAt rowsOf meaningOf recorded
+unfolding everyCode right judged refusedRight markedRight unmarkedRight same roomy said sized over packed entryAt rowsOf meaningOf recorded
 all-right = tt
 
 -- what a passed test says of a code
@@ -173,7 +173,7 @@ conditionRight : ℕ → Bool
 conditionRight c = eqb (conditionNo (condOf c)) (packedCondition (conditionAt c))
 
 all-conditions : T (upto conditionRight 256)
-unfolding upto conditionRight conditionNo condOf packedCondition conditionAt opcodeNo
+unfolding upto conditionRight conditionNo condOf packedCondition conditionAt
 all-conditions = tt
 
 -- the condition bytes of 7E 2x name what the manual names

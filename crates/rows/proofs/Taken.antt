@@ -7,7 +7,7 @@ use mathlib.Core.List.{List, [], _∷_}
 use native.Mathlib.Omega.{arith}
 use lib.ListN.{length, getD}
 use lib.Dec.{eqb, leb, ltb}
-use borrow.Author.Tests.{leb-true, ltb-true, eqb-true}
+use borrow.Author.Tests.{leb-true, leb-false, ltb-true, eqb-true}
 use Rattle.record.specs.declared.Answer.{Answer}
 use Rattle.record.specs.declared.Opcode.{Opcode}
 use Rattle.tests.specs.Choice.{pick}
@@ -19,10 +19,10 @@ use Rattle.rows.specs.Codes.{condOf}
 use Rattle.rows.specs.Fate.{bytesOf}
 use Rattle.rows.specs.Run.{reading, readDisp, readImm, andThen, judged, past, renamed, refusal, run, runRow, begun, decodeBy}
 
--- a read that goes on has taken its bytes, and they were there
+-- a read that goes on has taken its bytes, and they were there; else they were not
 abbrev pub Went : ℕ → ℕ → Seen → Got → Type 0
 Went n b s (On t) = (t .taken ≡ s .taken + n) × (t .taken ≤ b)
-Went n b s Short = Unit {0}
+Went n b s Short = b < s .taken + n
 
 went : (n b : ℕ) (s : Seen) (t : Bool) (x y : Got) → (t ≡ true → Went n b s x) → (t ≡ false → Went n b s y) → Went n b s (pick t x y)
 went n b s true x y f g = f refl
@@ -32,22 +32,23 @@ pub reading-went : (k : Num) (bs : List ℕ) (s : Seen) → s .taken ≤ length 
 unfolding readDisp readImm
 reading-went (disp n) bs s h =
     went n _ s (eqb n 0) _ _ (λ e. omega (arith, eqb-true n 0 e))
-    (λ e. went n _ s (leb (s .taken + n) (length bs)) _ _ (λ t. (refl, leb-true (s .taken + n) (length bs) t)) (λ t. tt))
-reading-went (imm n) bs s h = went n _ s (leb (s .taken + n) (length bs)) _ _ (λ t. (refl, leb-true (s .taken + n) (length bs) t)) (λ t. tt)
-reading-went imm20 bs s h = went 3 _ s (leb (s .taken + 3) (length bs)) _ _ (λ t. (refl, leb-true (s .taken + 3) (length bs) t)) (λ t. tt)
+    (λ e. went n _ s (leb (s .taken + n) (length bs)) _ _ (λ t. (refl, leb-true (s .taken + n) (length bs) t)) (λ t. leb-false (s .taken + n) (length bs) t))
+reading-went (imm n) bs s h = went n _ s (leb (s .taken + n) (length bs)) _ _ (λ t. (refl, leb-true (s .taken + n) (length bs) t)) (λ t. leb-false (s .taken + n) (length bs) t)
+reading-went imm20 bs s h = went 3 _ s (leb (s .taken + 3) (length bs)) _ _ (λ t. (refl, leb-true (s .taken + 3) (length bs) t)) (λ t. leb-false (s .taken + 3) (length bs) t)
 
 -- what holds of every answer to b bytes, a of which were taken before
 pub record Counted (a b : ℕ) (x : Answer) : Type 0 where
   pub accepted : x .refusal ≡ 0 → x .inst .length ≡ x .taken
+  pub short : x .inst .length ≤ x .taken
   pub grown : a ≤ x .taken
   pub within : x .taken ≤ b
   pub whole : x .refusal ≡ 1 → x .taken ≡ b
 
 refused-counted : (a b e n : ℕ) → 1 ≤ e → (e ≡ 1 → n ≡ b) → a ≤ n → n ≤ b → Counted a b (refusal e n)
-refused-counted a b e n z w g h = record { accepted = λ q. absurd (omega arith); grown = g; within = h; whole = w }
+refused-counted a b e n z w g h = record { accepted = λ q. absurd (omega arith); short = omega arith; grown = g; within = h; whole = w }
 
 wider : (a c b : ℕ) (x : Answer) → a ≤ c → Counted c b x → Counted a b x
-wider a c b x h k = record { accepted = k .accepted; grown = omega (arith, k .grown); within = k .within; whole = k .whole }
+wider a c b x h k = record { accepted = k .accepted; short = k .short; grown = omega (arith, k .grown); within = k .within; whole = k .whole }
 
 picked : (a b : ℕ) (t : Bool) (x y : Answer) → (t ≡ true → Counted a b x) → (t ≡ false → Counted a b y) → Counted a b (pick t x y)
 picked a b true x y f g = f refl
@@ -64,7 +65,7 @@ judged-counted b s isnt k h f = refused-counted _ _ 2 _ (omega arith) (λ e. abs
 
 pub run-counted : (rs : List Read) (bs : List ℕ) (f : Face) (s : Seen) → s .taken ≤ length bs → Counted (s .taken) (length bs) (run rs bs f s)
 unfolding run
-run-counted [] bs f s h = record { accepted = λ e. refl; grown = omega arith; within = h; whole = λ e. absurd (omega arith) }
+run-counted [] bs f s h = record { accepted = λ e. refl; short = omega arith; grown = omega arith; within = h; whole = λ e. absurd (omega arith) }
 run-counted (num k ∷ rs) bs f s h = then-counted (bytesOf k) bs s (reading k bs s) (run rs bs f) h (reading-went k bs s h) (run-counted rs bs f)
 run-counted (cond ∷ rs) bs f s h =
     picked _ _ (ltb (s .taken) (length bs)) _ _

@@ -1,0 +1,28 @@
+-- Twelve stores over the first twelve entries, and the size of what they store.
+-- Assumes nothing.
+use Prim.Native.Nat.{ℕ, _+_, _≤_, _<_}
+use mathlib.Core.Path.{_≡_, refl, sym, ap, _∙_, subst}
+use mathlib.Core.List.{List, [], _∷_}
+use native.Mathlib.Omega.{arith}
+use lib.ListN.{length, getD, drop, set}
+use lib.Seq.{sets-eq, getD-drop}
+use Rattle.record.specs.declared.Answer.{Answer}
+use Rattle.rows.specs.Rows.{document01}
+use Rattle.rows.specs.Run.{decodeRows}
+use Rattle.rows.proofs.Taken.{counted}
+use Rattle.rows.proofs.Length.{seven}
+
+-- numbers of names stand for the names' own
+pub twelve : (l : List ℕ) {o o′ z z′ w w′ p p′ q q′ r r′ m m′ : ℕ} (t i d f n : ℕ) → 12 ≤ length l
+    → o ≡ o′ → z ≡ z′ → w ≡ w′ → p ≡ p′ → q ≡ q′ → r ≡ r′ → m ≡ m′
+    → set (set (set (set (set (set (set (set (set (set (set (set l 0 t) 1 o) 2 z) 3 w) 4 p) 5 q) 6 r) 7 i) 8 d) 9 f) 10 n) 11 m
+    ≡ t ∷ o′ ∷ z′ ∷ w′ ∷ p′ ∷ q′ ∷ r′ ∷ i ∷ d ∷ f ∷ n ∷ m′ ∷ drop 12 l
+twelve l {o} {o′} {z} {z′} {w} {w′} {p} {p′} {q} {q′} {r} {r′} {m} {m′} t i d f n h eo ez ew ep eq er em =
+    sets-eq (t ∷ o ∷ z ∷ w ∷ p ∷ q ∷ r ∷ i ∷ d ∷ f ∷ n ∷ m ∷ []) l 0 h ∙ cc
+
+-- a second byte is a byte, wherever decoding begins
+pub small : (image : List ℕ) (at : ℕ) → ((k : ℕ) → getD image k 0 < 256) → decodeRows (drop at image) .taken ≤ 7
+small image at h = seven (drop at image) (subst (λ x. x < 256) (sym (getD-drop at image 1 0)) (h (at + 1)))
+
+pub short : (image : List ℕ) (at : ℕ) → decodeRows (drop at image) .inst .length ≤ decodeRows (drop at image) .taken
+short image at = counted document01 (drop at image) .short
