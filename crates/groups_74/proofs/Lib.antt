@@ -1,0 +1,3 @@
+pub mod Table74
+pub mod Table76
+pub mod Table7E

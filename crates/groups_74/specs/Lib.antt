@@ -1,0 +1,3 @@
+pub mod Op74
+pub mod Op76
+pub mod Op7E
