@@ -1,1 +1,2 @@
 pub mod Nibble
+pub mod Outcomes
