@@ -1,0 +1,19 @@
+-- `replay::line::answer_to` meets its contract.
+-- Assumes nothing.
+use mathlib.Core.Path.{sym}
+use lib.Seq.{length-take-le}
+use borrow.Author.Needs.{needs}
+use Rattle.replay.proofs.line.answer_to.Statement.{statement}
+use Rattle.replay.proofs.line.answer_to.Tie as tie
+
+array-share-prefix-bytes : tie.Need-array-share-prefix-bytes
+array-share-prefix-bytes c = rw (c .before .bytes-in .ensures, c .digit-at .ensures .0) (c .before .before .before .pre .few)
+
+slice-aggregate-decode : tie.Need-slice-aggregate-decode
+slice-aggregate-decode c = sym (length-take-le _ _ (array-share-prefix-bytes (c .before)))
+
+returns : tie.Need-returns
+returns c = cc
+
+pub answer-to-spec : {M : Type 1} → statement M
+answer-to-spec = tie.close (tie.spec (λ c κs. search needs) (λ c κs. search needs) (λ c. search needs) array-share-prefix-bytes slice-aggregate-decode (λ c κs. search needs) returns)

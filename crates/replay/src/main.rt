@@ -1,0 +1,103 @@
+// Replays the stored list of answers: decodes the bytes of each line of its input and compares the answer with the line's.
+// Its last line of output counts the answers compared, those that differ and, if there are any, the malformed lines.
+mod hex;
+mod line;
+mod numbers;
+mod tally;
+
+ghost use Prim.Native.Nat.{_≤_, _<_};
+use libc::STDIN_FILENO;
+use libc::STDOUT_FILENO;
+use line::Verdict;
+use tally::Tally;
+
+// 80 lines of 49 characters.
+const PIECE: usize = 80 * 49;
+
+struct Step {
+    tally: Tally,
+    goes_on: bool,
+}
+
+// The first line that differs is written when it is met, so that no later step has to keep it.
+fn replay_line(line: &[u8], t: Tally) -> Tally {
+    match line::judge(line) {
+        Verdict::Agrees => t.agreed(),
+        Verdict::Differs => {
+            if t.differ == 0 {
+                io::write_all(STDOUT_FILENO, b"first: ");
+                io::write_all(STDOUT_FILENO, line);
+            }
+            t.differed()
+        }
+        Verdict::Malformed => t.malformed(),
+    }
+}
+
+fn line_end(at: usize, end: usize) -> usize
+    requires { ⌜ at < end ⌝ }
+    ensures { λ r. ⌜ (at < r) × (r ≤ end) ⌝ }
+{
+    if end - at < 49 {
+        return end;
+    }
+    at + 49
+}
+
+// What is left over at the end is a line too, and a malformed one.
+fn replay_lines(text: &[u8], t: Tally) -> Tally {
+    let mut tally = t;
+    let mut at: usize = 0;
+    while at < text.len() {
+        let end = line_end(at, text.len());
+        tally = replay_line(&text[at..end], tally);
+        at = end;
+    }
+    tally
+}
+
+fn replay_piece(t: Tally) -> Step {
+    let mut piece = [0u8; PIECE];
+    let n = io::read_full(STDIN_FILENO, &mut piece);
+    Step {
+        tally: replay_lines(&piece[..n], t),
+        goes_on: n == PIECE,
+    }
+}
+
+// Nothing says that the input ends, so the pieces are counted down from a number that no run uses up.
+fn replay() -> Tally {
+    let mut tally = Tally::new();
+    let mut pieces = u64::MAX;
+    while pieces > 0 {
+        let step = replay_piece(tally);
+        tally = step.tally;
+        if !step.goes_on {
+            return tally;
+        }
+        pieces -= 1;
+    }
+    tally
+}
+
+fn report(t: Tally) {
+    if t.malformed > 0 {
+        io::write_all(STDOUT_FILENO, b"first malformed line: ");
+        io::print_decimal(STDOUT_FILENO, t.first_malformed);
+        io::write_all(STDOUT_FILENO, b"\n");
+    }
+    io::print_decimal(STDOUT_FILENO, t.answers);
+    io::write_all(STDOUT_FILENO, b" answers, ");
+    io::print_decimal(STDOUT_FILENO, t.differ);
+    io::write_all(STDOUT_FILENO, b" differ");
+    if t.malformed > 0 {
+        io::write_all(STDOUT_FILENO, b", ");
+        io::print_decimal(STDOUT_FILENO, t.malformed);
+        io::write_all(STDOUT_FILENO, b" malformed");
+    }
+    io::write_all(STDOUT_FILENO, b"\n");
+}
+
+fn main() {
+    report(replay());
+}

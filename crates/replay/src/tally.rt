@@ -1,0 +1,40 @@
+// How many lines of each verdict were met. No run reads 2 ^ 64 lines, so no count wraps.
+use std::num::wrapping_add_u64;
+
+pub struct Tally {
+    pub answers: u64,
+    pub differ: u64,
+    pub malformed: u64,
+    // The first malformed line's number, counted from 1.
+    pub first_malformed: u64,
+}
+
+impl Tally {
+    pub fn new() -> Self {
+        Tally {
+            answers: 0,
+            differ: 0,
+            malformed: 0,
+            first_malformed: 0,
+        }
+    }
+
+    pub fn agreed(mut self) -> Self {
+        self.answers = wrapping_add_u64(self.answers, 1);
+        self
+    }
+
+    pub fn differed(mut self) -> Self {
+        self.answers = wrapping_add_u64(self.answers, 1);
+        self.differ = wrapping_add_u64(self.differ, 1);
+        self
+    }
+
+    pub fn malformed(mut self) -> Self {
+        self.malformed = wrapping_add_u64(self.malformed, 1);
+        if self.malformed == 1 {
+            self.first_malformed = wrapping_add_u64(self.answers, 1);
+        }
+        self
+    }
+}
