@@ -18,6 +18,10 @@ const CUT_TAIL: [u8; 6] = [0x05, 0x06, 0xFA, 0xC3, 0xD4, 0xE7];
 // Stands before the condition bytes of 7E 2n. Both are refused as conditions, so that one read too early shows.
 const BEFORE_CONDITION: [u8; 2] = [0x90, 0x7F];
 
+// The strings that the rules' bench lines name and do not state as a theorem.
+const BENCH_LINES: [&[u8]; 4] =
+    [&[0x74, 0x7E, 0xFF, 0x00], &[0x74, 0x7A, 0xFF], &[0x74, 0x7E, 0x00, 0x01], &[0x7D, 0x0C, 0x10, 0x00, 0x00]];
+
 pub fn list() -> String {
     strings().iter().map(|bytes| stored_line(bytes)).collect()
 }
@@ -35,6 +39,7 @@ fn strings() -> BTreeSet<Vec<u8>> {
         }
     }
     strings.extend((0x20..=0x2F).flat_map(condition_strings));
+    strings.extend(BENCH_LINES.map(|bytes| bytes.to_vec()));
     strings
 }
 
