@@ -1,0 +1,17 @@
+-- The bench lines hold of the definitions.
+-- Assumes nothing.
+use mathlib.Core.Path.{refl}
+use Rattle.record.specs.Same.{fieldOf, baseOf}
+use Rattle.rows.specs.Codes.{condOf}
+use Rattle.rows.specs.Rows.{known, rowsOf}
+use Rattle.rows.specs.Run.{decodeBy, runRow, run, readDisp, readImm}
+use Rattle.shortest.specs.Search.{condByte, disps, imms, conds, spell, aim, bytesBy}
+use Rattle.shortest.specs.Can.{fits, can}
+use Rattle.shortest.specs.Direct.{able, taken}
+use Rattle.shortest.specs.Coarse.{whole}
+use Rattle.shortest.specs.Choose.{chooseBy, place}
+use Rattle.shortest.specs.Bench.{lines, Hold}
+
+pub bench : Hold lines
+unfolding decodeBy runRow run readDisp readImm condOf known rowsOf taken able can fits bytesBy spell aim chooseBy place condByte disps imms conds fieldOf baseOf whole
+bench = (refl, (refl, (refl, (refl, (refl, tt)))))

@@ -1,0 +1,61 @@
+-- The direct choice is right for document 01.
+-- Assumes nothing.
+use Prim.Native.Nat.{ℕ, _<_}
+use mathlib.Core.Path.{_≡_, refl}
+use mathlib.Core.Bool.{Bool, true, false}
+use lib.Dec.{T}
+use Rattle.tests.specs.Choice.{pick}
+use Rattle.record.specs.declared.Record.{Record}
+use Rattle.record.specs.Same.{baseOf, fieldOf, Key, key}
+use Rattle.rows.specs.All.{everyCode}
+use Rattle.rows.specs.Rows.{known, rowsOf, document01}
+use Rattle.rows.proofs.All.{every-code}
+use Rattle.shortest.specs.Says.{Right}
+use Rattle.shortest.specs.Search.{imms, best}
+use Rattle.shortest.specs.Coarse.{regular, coarse, wholeKey, whole, roughly}
+use Rattle.shortest.specs.Choose.{choose, chooseBy, narrow, encoded}
+use Rattle.shortest.proofs.Condition.{so}
+use Rattle.shortest.proofs.Optimal.{unique}
+use Rattle.shortest.proofs.Here.{plains, by-search}
+use Rattle.shortest.proofs.Direct.{direct}
+use Rattle.shortest.proofs.Coarse.{like-roughly, beats}
+use Rattle.shortest.proofs.Tested.{tested}
+
+regularAt : ℕ → ℕ → Bool
+regularAt a b = regular (document01 .rowAt a b)
+
+all-regular : T (everyCode regularAt)
+unfolding everyCode regularAt rowsOf regular imms fieldOf baseOf whole
+all-regular = tt
+
+regulars : (a b : ℕ) → known a ≡ true → b < 256 → regular (document01 .rowAt a b) ≡ true
+unfolding regularAt
+regulars a b e l = so _ (every-code regularAt all-regular b l a e)
+
+-- the choice asks of a number only whether it is 0, or below 256, if it is not part of the code
+exactly : (b : Bool) (v : ℕ) → pick b (roughly b v) 0 ≡ pick b v 0
+exactly true v = refl
+exactly false v = refl
+
+steady : (k : Key) → choose (coarse k) ≡ choose k
+steady k =
+    let x = like-roughly (wholeKey k) (k .number0) in
+    let y = like-roughly (wholeKey k) (k .number1) in
+    let n = exactly (wholeKey k) (k .number0) in
+    λ i. chooseBy (k .opcode) (record {
+      size = k .size;
+      width = k .width;
+      base0 = k .base0;
+      base1 = k .base1;
+      near0 = narrow (k .base0) (x .zero? i) (x .byte? i);
+      near1 = narrow (k .base1) (y .zero? i) (y .byte? i);
+      far0 = narrow (k .base0) false (x .byte? i);
+      number = n i;
+    })
+
+pub chosen : (r : Record) → Right document01 r (encoded r)
+chosen = direct document01 plains choose (beats document01 choose regulars tested steady)
+
+-- so it is the search's answer
+pub as-best : (r : Record) → encoded r ≡ best document01 (key r)
+as-best r = unique document01 r _ _ (chosen r) (by-search r)

@@ -1,0 +1,60 @@
+-- A condition's byte is known by its opcode, and tests joined by `both`.
+-- Assumes nothing.
+use Prim.Native.Nat.{ℕ, _<_}
+use mathlib.Core.Path.{_≡_, refl, ap, ap₂, _∙_, subst}
+use mathlib.Core.Bool.{Bool, true, false}
+use mathlib.Core.List.{List, [], _∷_}
+use native.Mathlib.Omega.{arith}
+use lib.Dec.{T, eqb}
+use borrow.Author.Tests.{eqb-true, eq-eqb}
+use Rattle.tests.specs.Choice.{pick, both}
+use Rattle.tests.specs.Range.{upto}
+use Rattle.tests.proofs.Range.{upto-at}
+use Rattle.record.specs.declared.Opcode.{Opcode}
+use Rattle.record.specs.Numbers.{opcodeNo}
+use Rattle.record.proofs.Apart.{opcodes-apart}
+use Rattle.rows.specs.Row.{Condition, is, isnt}
+use Rattle.rows.specs.Codes.{condOf}
+use Rattle.shortest.specs.Says.{Bytes}
+use Rattle.shortest.specs.Search.{means, seek, condBytes, condByte}
+
+pub so : (b : Bool) → T b → b ≡ true
+so true t = refl
+so false t = absurd t
+
+pub both-true : (a b : Bool) → both a b ≡ true → (a ≡ true) × (b ≡ true)
+both-true true b e = (refl, e)
+both-true false b e = let z : _≡_ {A = ℕ} 0 1 = cc in absurd (omega arith)
+
+pub both-so : {a b : Bool} → a ≡ true → b ≡ true → both a b ≡ true
+both-so {a} {b} p q = ap₂ both p q
+
+abbrev backs : Condition → ℕ → Bool
+backs (is o) v = eqb (condByte o) v
+backs isnt v = true
+
+each-backs : T (upto (λ v. backs (condOf v) v) 256)
+unfolding upto condOf condByte
+each-backs = tt
+
+pub condition : (v : ℕ) (o : Opcode) → v < 256 → condOf v ≡ is o → condByte o ≡ v
+condition v o h e = eqb-true _ _ (so _ (subst (λ c. T (backs c v)) e (upto-at (λ v. backs (condOf v) v) 256 each-backs v h)))
+
+seek-small : (cs : List ℕ) (o : Opcode) → Bytes cs → seek cs o < 256
+seek-small [] o h = omega arith
+seek-small (c ∷ cs) o h = by (means (condOf c) o) (seek-small cs o (h .1))
+  where
+    by : (b : Bool) → seek cs o < 256 → pick b c (seek cs o) < 256
+    by true l = h .0
+    by false l = l
+
+pub cond-small : (o : Opcode) → condByte o < 256
+unfolding condByte
+cond-small o = seek-small condBytes o (omega arith)
+
+pub means-so : (c : Condition) (o : Opcode) → c ≡ is o → means c o ≡ true
+means-so c o e = ap (λ x. means x o) e ∙ eq-eqb (opcodeNo o) (opcodeNo o) refl
+
+pub so-means : (c : Condition) (o : Opcode) → means c o ≡ true → c ≡ is o
+so-means (is p) o e = ap is (opcodes-apart p o (eqb-true _ _ e))
+so-means isnt o e = let z : _≡_ {A = ℕ} 0 1 = cc in absurd (omega arith)

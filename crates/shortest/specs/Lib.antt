@@ -1,0 +1,9 @@
+pub mod Says
+pub mod Written
+pub mod Digits
+pub mod Search
+pub mod Can
+pub mod Direct
+pub mod Coarse
+pub mod Choose
+pub mod Bench
