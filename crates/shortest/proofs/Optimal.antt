@@ -182,26 +182,30 @@ module _ (t : Table) where
       no false z = omega arith
   says-two P r f (a ∷ b ∷ xs) s = f a b xs s
 
-  -- the search takes the bytes it makes for a code if they say r, and only then
+  -- the search's test passes if the bytes say r, and only then
+  pub says-so : (xs : List ℕ) (r : Record) → Says t xs r → agrees (decodeBy t xs) (key r) ≡ true
+  says-so xs r s = both-so (eq-eqb _ _ (s .accepted)) (both-so (ap other (s .unmarked)) (same-so _ (key r) (s .same)))
+
+  pub so-says : (xs : List ℕ) (r : Record) → agrees (decodeBy t xs) (key r) ≡ true → Says t xs r
+  so-says xs r e =
+      let p = both-true _ _ e in
+      let q = both-true _ _ (p .1) in
+      record { accepted = eqb-true _ _ (p .0); unmarked = unmarked _ (q .0); same = so-same _ (key r) (q .1) }
+
+  -- so it takes the bytes it makes for a code if they say r
   taken-so : (a b : ℕ) (r : Record) → Says t (bytesBy t a b (key r)) r → try t a b (key r) ≡ bytes (bytesBy t a b (key r))
   unfolding try
-  taken-so a b r s =
-      ap (λ x. pick x (bytes (bytesBy t a b (key r))) none)
-      (both-so (eq-eqb _ _ (s .accepted)) (both-so (ap other (s .unmarked)) (same-so _ (key r) (s .same))))
+  taken-so a b r s = ap (λ x. pick x (bytes (bytesBy t a b (key r))) none) (says-so (bytesBy t a b (key r)) r s)
 
+  -- and only then
   so-taken : (a b : ℕ) (r : Record) (xs : List ℕ) → a < 256 → b < 256 → try t a b (key r) ≡ bytes xs → Bytes xs × Says t xs r
   unfolding try bytesBy
   so-taken a b r xs ha hb = by (agrees (decodeBy t (bytesBy t a b (key r))) (key r)) refl
     where
       by : (g : Bool) → agrees (decodeBy t (bytesBy t a b (key r))) (key r) ≡ g → pick g (bytes (bytesBy t a b (key r))) none ≡ bytes xs → Bytes xs × Says t xs r
       by true k f =
-          let p = both-true _ _ k in
-          let q = both-true _ _ (p .1) in
           let e : bytesBy t a b (key r) ≡ xs = cc in
-          subst (λ ys. Bytes ys × Says t ys r) e (
-            (ha, (hb, spell-bytes (t .rowAt a b .reads) (aim (t .rowAt a b .face) (key r)))),
-            record { accepted = eqb-true _ _ (p .0); unmarked = unmarked _ (q .0); same = so-same _ (key r) (q .1) },
-          )
+          subst (λ ys. Bytes ys × Says t ys r) e ((ha, (hb, spell-bytes (t .rowAt a b .reads) (aim (t .rowAt a b .face) (key r)))), so-says (bytesBy t a b (key r)) r k)
       by false k f = let z : _≡_ {A = ℕ} 0 1 = cc in absurd (omega arith)
 
   module _ (plains : (a b : ℕ) → t .known a ≡ true → b < 256 → plain (t .rowAt a b) ≡ true) where

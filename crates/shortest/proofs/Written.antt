@@ -6,7 +6,7 @@ use mathlib.Core.Bool.{Bool, true, false}
 use mathlib.Core.List.{List, _++_}
 use native.Mathlib.Omega.{arith}
 use lib.ListN.{length, take, drop, length-append, length-drop}
-use lib.Seq.{length-take-le, take-at, drop-at, drop-drop, drop-append-seam}
+use lib.Seq.{length-take-le, take-at, drop-at, drop-drop, take-append-seam, drop-append-seam}
 use lib.Dec.{leb}
 use borrow.Author.Tests.{leb-true}
 use Rattle.tests.specs.Choice.{pick}
@@ -39,3 +39,17 @@ kept (bytes xs) bs place = by (leb (place + length xs) (length bs)) refl
           behind = sym (drop-drop (length xs) place (take place bs ++ (xs ++ drop (place + length xs) bs))) ∙ ap (drop (length xs)) d ∙ drop-append-seam xs (drop (place + length xs) bs);
           long = omega arith;
         }
+
+-- and with 0 they are the bytes found
+pub wrote : (xs bs : List ℕ) (place : ℕ) → written (bytes xs) bs place .no ≡ 0 → take (length xs) (drop place (written (bytes xs) bs place .buffer)) ≡ xs
+unfolding written
+wrote xs bs place = by (leb (place + length xs) (length bs)) refl
+  where
+    by : (b : Bool) → leb (place + length xs) (length bs) ≡ b
+        → let x : Left = pick b (record { no = 0; length = length xs; buffer = take place bs ++ (xs ++ drop (place + length xs) bs) }) (record { no = 6; length = 0; buffer = bs }) in
+        x .no ≡ 0 → take (length xs) (drop place (x .buffer)) ≡ xs
+    by false e z = absurd (omega arith)
+    by true e z =
+        let l : place + length xs ≤ length bs = leb-true _ _ e in
+        let p : length (take place bs) ≡ place = length-take-le place bs (omega arith) in
+        ap (take (length xs)) (drop-at (take place bs) (xs ++ drop (place + length xs) bs) place p) ∙ take-append-seam xs (drop (place + length xs) bs)

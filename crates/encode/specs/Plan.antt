@@ -1,0 +1,13 @@
+-- The bytes of a plan, a code and up to two numbers behind it, and a list with some of its bytes replaced.
+use Prim.Native.Nat.{ℕ, _+_}
+use mathlib.Core.List.{List, _∷_, _++_}
+use lib.ListN.{length, take, drop}
+use Rattle.shortest.specs.Digits.{digits}
+use Rattle.encode.specs.declared.Plan.{Plan}
+
+abbrev pub planned : Plan → List ℕ
+planned p = p .first ∷ p .second ∷ (digits (p .count) (p .number) ++ digits (p .«rest_count») (p .rest))
+
+-- a list with xs in place of as many elements from a place on
+abbrev pub put : ℕ → List ℕ → List ℕ → List ℕ
+put at xs l = take at l ++ xs ++ drop (at + length xs) l
