@@ -100,7 +100,8 @@ all-named : T (everyCode asNamed)
 unfolding everyCode asNamed rowsOf oneList oneRead oneNum slim readsOf near far is among conds fieldOf baseOf whole
 all-named = tt
 
-picked : (b c : Bool) → T (pick b c true) → b ≡ true → T c
+-- a test that was asked where b holds
+pub picked : (b c : Bool) → T (pick b c true) → b ≡ true → T c
 picked true c t e = t
 picked false c t e = absurd (subst T (sym e) tt)
 

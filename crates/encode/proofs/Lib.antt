@@ -1,3 +1,4 @@
 pub mod Put
 pub mod Room
 pub mod Asks
+pub mod Bare
