@@ -3,93 +3,24 @@
 use Prim.Native.Nat.{ℕ, zero, suc, _≤_, _<_}
 use mathlib.Core.Path.{_≡_, refl, sym, ap, ap₂, subst, _∙_}
 use mathlib.Core.Bool.{Bool, true, false}
-use mathlib.Core.List.{List, [], _∷_, _++_, append-nil}
-use lib.Dec.{T, eqb, leb}
+use mathlib.Core.List.{List, _++_, append-nil}
+use lib.Dec.{T, leb}
 use native.Mathlib.Omega.{arith}
-use borrow.Author.Tests.{eqb-true, leb-true}
+use borrow.Author.Tests.{leb-true}
 use Rattle.tests.specs.Choice.{pick, both}
-use Rattle.tests.proofs.Choice.{both-left, both-right}
 use Rattle.record.specs.declared.Record.{Record}
 use Rattle.record.specs.Same.{is, among, fieldOf, baseOf}
 use Rattle.rows.specs.All.{everyCode}
-use Rattle.rows.specs.Row.{Num, disp, imm, imm20, Read, num, cond, stop, Face, Row}
+use Rattle.rows.specs.Row.{Read, Face, Row}
 use Rattle.rows.specs.Rows.{known, rowsOf, document01}
 use Rattle.rows.proofs.All.{every-code}
 use Rattle.shortest.specs.Digits.{digits}
+use Rattle.shortest.specs.Can.{fits}
 use Rattle.shortest.specs.Search.{condByte, disps, conds, nth, spell, live}
 use Rattle.shortest.specs.Coarse.{whole}
 use Rattle.shortest.proofs.Condition.{so, both-true}
-use Rattle.encode.specs.Asks.{near, far, displacement, number, condition, before, behind, other, readsOf, front, numbers}
-
--- reads without those of no byte
-unfoldable pub slim : List Read → List Read
-slim [] = []
-slim (num (disp zero) ∷ rs) = slim rs
-slim (num (disp (suc n)) ∷ rs) = num (disp (suc n)) ∷ slim rs
-slim (num (imm n) ∷ rs) = num (imm n) ∷ slim rs
-slim (num imm20 ∷ rs) = num imm20 ∷ slim rs
-slim (cond ∷ rs) = cond ∷ slim rs
-slim (stop e ∷ rs) = stop e ∷ slim rs
-
--- two reads that are one, as a test (a stop counts as none)
-oneNum : Num → Num → Bool
-oneNum (disp n) (disp m) = eqb n m
-oneNum (disp n) (imm m) = false
-oneNum (disp n) imm20 = false
-oneNum (imm n) (disp m) = false
-oneNum (imm n) (imm m) = eqb n m
-oneNum (imm n) imm20 = false
-oneNum imm20 (disp m) = false
-oneNum imm20 (imm m) = false
-oneNum imm20 imm20 = true
-
-oneRead : Read → Read → Bool
-oneRead (num n) (num m) = oneNum n m
-oneRead (num n) cond = false
-oneRead (num n) (stop e) = false
-oneRead cond (num m) = false
-oneRead cond cond = true
-oneRead cond (stop e) = false
-oneRead (stop d) (num m) = false
-oneRead (stop d) cond = false
-oneRead (stop d) (stop e) = false
-
-oneList : List Read → List Read → Bool
-oneList [] [] = true
-oneList [] (y ∷ ys) = false
-oneList (x ∷ xs) [] = false
-oneList (x ∷ xs) (y ∷ ys) = both (oneRead x y) (oneList xs ys)
-
-one-num : (n m : Num) → T (oneNum n m) → n ≡ m
-unfolding oneNum
-one-num (disp n) (disp m) t = ap disp (eqb-true n m (so _ t))
-one-num (disp n) (imm m) t = absurd t
-one-num (disp n) imm20 t = absurd t
-one-num (imm n) (disp m) t = absurd t
-one-num (imm n) (imm m) t = ap imm (eqb-true n m (so _ t))
-one-num (imm n) imm20 t = absurd t
-one-num imm20 (disp m) t = absurd t
-one-num imm20 (imm m) t = absurd t
-one-num imm20 imm20 t = refl
-
-one-read : (x y : Read) → T (oneRead x y) → x ≡ y
-unfolding oneRead
-one-read (num n) (num m) t = ap num (one-num n m t)
-one-read (num n) cond t = absurd t
-one-read (num n) (stop e) t = absurd t
-one-read cond (num m) t = absurd t
-one-read cond cond t = refl
-one-read cond (stop e) t = absurd t
-one-read (stop d) (num m) t = absurd t
-one-read (stop d) cond t = absurd t
-one-read (stop d) (stop e) t = absurd t
-
-one-list : (xs ys : List Read) → T (oneList xs ys) → xs ≡ ys
-unfolding oneList
-one-list [] [] t = refl
-one-list [] (y ∷ ys) t = absurd t
-one-list (x ∷ xs) [] t = absurd t
-one-list (x ∷ xs) (y ∷ ys) t = ap₂ _∷_ (one-read x y (both-left (oneRead x y) (oneList xs ys) t)) (one-list xs ys (both-right (oneRead x y) (oneList xs ys) t))
+use Rattle.encode.specs.Asks.{near, far, displacement, number, condition, before, behind, other, readsOf, front, numbers, fitting, fittingNumber, fittingCondition, allFitting}
+use Rattle.encode.proofs.Slim.{slim, oneNum, oneRead, oneList, one-list, slim-spell, slim-fits}
 
 asNamed : ℕ → ℕ → Bool
 asNamed a b =
@@ -99,6 +30,10 @@ asNamed a b =
 all-named : T (everyCode asNamed)
 unfolding everyCode asNamed rowsOf oneList oneRead oneNum slim readsOf near far is among conds fieldOf baseOf whole
 all-named = tt
+
+both-last : (b : Bool) → both b true ≡ b
+both-last true = refl
+both-last false = refl
 
 -- a test that was asked where b holds
 pub picked : (b c : Bool) → T (pick b c true) → b ≡ true → T c
@@ -118,28 +53,7 @@ named a b e l v =
     let y = both-true _ _ (x .1) in
     record { number = leb-true _ _ (x .0); condition = leb-true _ _ (y .0); reads = one-list _ _ (subst T (sym (y .1)) tt) }
 
--- reads of no byte are not spelled
-slim-disps : (rs : List Read) → disps rs ≡ disps (slim rs)
-unfolding slim disps
-slim-disps [] = refl
-slim-disps (num (disp zero) ∷ rs) = slim-disps rs
-slim-disps (num (disp (suc n)) ∷ rs) = ap suc (slim-disps rs)
-slim-disps (num (imm n) ∷ rs) = slim-disps rs
-slim-disps (num imm20 ∷ rs) = slim-disps rs
-slim-disps (cond ∷ rs) = slim-disps rs
-slim-disps (stop e ∷ rs) = slim-disps rs
-
-slim-spell : (rs : List Read) (t : Record) → spell rs t ≡ spell (slim rs) t
-unfolding slim spell
-slim-spell [] t = refl
-slim-spell (num (disp zero) ∷ rs) t = slim-spell rs t
-slim-spell (num (disp (suc n)) ∷ rs) t = ap₂ (λ d xs. digits (suc n) (nth d t) ++ xs) (slim-disps rs) (slim-spell rs t)
-slim-spell (num (imm n) ∷ rs) t = ap (λ xs. digits n (t .«imm_wide») ++ xs) (slim-spell rs t)
-slim-spell (num imm20 ∷ rs) t = ap (λ xs. digits 3 (t .«imm_wide») ++ xs) (slim-spell rs t)
-slim-spell (cond ∷ rs) t = ap (λ xs. digits 1 (condByte (t .opcode)) ++ xs) (slim-spell rs t)
-slim-spell (stop e ∷ rs) t = refl
-
--- each part is spelled as its digits
+-- each part is spelled as its digits, and fits as its number does
 module _ (t : Record) where
   of-displacement : (n : ℕ) (rs : List Read) → spell (displacement n ++ rs) t ≡ digits n (nth (disps rs) t) ++ spell rs t
   unfolding spell
@@ -159,6 +73,24 @@ module _ (t : Record) where
   of-condition zero h = refl
   of-condition (suc zero) h = append-nil _
   of-condition (suc (suc n)) h = let z : ⊥ = omega (arith, h) in absurd z
+
+  in-displacement : (n : ℕ) (rs : List Read) → fits (displacement n ++ rs) t ≡ both (fitting n (nth (disps rs) t)) (fits rs t)
+  unfolding fits
+  in-displacement zero rs = refl
+  in-displacement (suc n) rs = refl
+
+  in-number : (n : ℕ) (rs : List Read) → n ≤ 3 → fits (number n ++ rs) t ≡ both (fittingNumber n (t .«imm_wide»)) (fits rs t)
+  unfolding fits
+  in-number zero rs h = refl
+  in-number (suc zero) rs h = refl
+  in-number (suc (suc zero)) rs h = refl
+  in-number (suc (suc (suc zero))) rs h = refl
+  in-number (suc (suc (suc (suc n)))) rs h = let z : ⊥ = omega (arith, h) in absurd z
+
+  in-condition : (n : ℕ) → fits (condition n) t ≡ fittingCondition n (t .opcode)
+  unfolding fits
+  in-condition zero = refl
+  in-condition (suc n) = both-last _
 
   no-disps : (n c : ℕ) → disps (number n ++ condition c) ≡ 0
   unfolding disps
@@ -186,6 +118,16 @@ module _ (t : Record) where
       (of-displacement (behind f) rest
       ∙ ap₂ (λ d xs. digits (behind f) (nth d t) ++ xs) none (of-number (other f) (condition c) h ∙ ap (λ xs. digits (other f) (t .«imm_wide») ++ xs) (of-condition c k)))
 
+  in-all : (f : Face) (c : ℕ) → other f ≤ 3 → fits (readsOf f c) t ≡ allFitting f c t
+  unfolding readsOf allFitting
+  in-all f c h =
+      let rest = number (other f) ++ condition c in
+      let none = no-disps (other f) c in
+      in-displacement (before f) (displacement (behind f) ++ rest)
+      ∙ ap₂ (λ v x. both (fitting (before f) v) x) (one-disp (behind f) rest none)
+      (in-displacement (behind f) rest
+      ∙ ap₂ (λ d x. both (fitting (behind f) (nth d t)) x) none (in-number (other f) (condition c) h ∙ ap (both (fittingNumber (other f) (t .«imm_wide»))) (in-condition c)))
+
 -- so the bytes behind a code are those of four numbers, each of so many bytes as the names say
 pub spelled : (a b : ℕ) → known a ≡ true → b < 256 → live (document01 .rowAt a b) ≡ true → (t : Record)
     → spell (document01 .rowAt a b .reads) t ≡ numbers (document01 .rowAt a b .face) (conds (document01 .rowAt a b .reads)) t
@@ -193,3 +135,10 @@ spelled a b e l v t =
     let w = document01 .rowAt a b in
     let n = named a b e l v in
     slim-spell (w .reads) t ∙ ap (λ rs. spell rs t) (n .reads) ∙ of-all t (w .face) (conds (w .reads)) (n .number) (n .condition)
+
+pub fitted : (a b : ℕ) → known a ≡ true → b < 256 → live (document01 .rowAt a b) ≡ true → (t : Record)
+    → fits (document01 .rowAt a b .reads) t ≡ allFitting (document01 .rowAt a b .face) (conds (document01 .rowAt a b .reads)) t
+fitted a b e l v t =
+    let w = document01 .rowAt a b in
+    let n = named a b e l v in
+    slim-fits (w .reads) t ∙ ap (λ rs. fits rs t) (n .reads) ∙ in-all t (w .face) (conds (w .reads)) (n .number)

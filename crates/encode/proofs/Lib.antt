@@ -1,4 +1,5 @@
 pub mod Put
 pub mod Room
+pub mod Slim
 pub mod Asks
 pub mod Bare

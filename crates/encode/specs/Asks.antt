@@ -1,14 +1,19 @@
 -- What a row reads, told by its names alone: its displacements, then its other number, then its condition.
-use Prim.Native.Nat.{ℕ, zero, suc, _+_}
+use Prim.Native.Nat.{ℕ, zero, suc, _+_, _^_}
+use mathlib.Core.Bool.{Bool, true}
 use mathlib.Core.List.{List, [], _∷_, _++_}
-use Rattle.tests.specs.Choice.{pick}
+use lib.Dec.{ltb}
+use Rattle.tests.specs.Choice.{pick, both}
 use Rattle.record.specs.declared.Record.{Record}
+use Rattle.record.specs.declared.Opcode.{Opcode}
 use Rattle.record.specs.declared.Operand.{Operand}
 use Rattle.record.specs.declared.Operand.the-variants.{Imm8, Imm16, Abs16, Abs20, Disp8, «Disp8_A0», «Disp8_A1», «Disp8_SB», «Disp8_FB», «Disp8_SP», «Disp16_A0», «Disp16_A1», «Disp16_SB», «Disp20_A0», «Disp20_A1», «Bit_R0», «Bit_R1», «Bit_R2», «Bit_R3», «Bit_A0», «Bit_A1», «Bit_Disp8_A0», «Bit_Disp8_A1», «Bit_Disp8_SB», «Bit_Disp8_FB», «Bit_Disp16_A0», «Bit_Disp16_A1», «Bit_Disp16_SB», «Bit_Abs16»}
 use Rattle.record.specs.Same.{is, among}
 use Rattle.rows.specs.Row.{disp, imm, imm20, Read, num, cond, Face}
+use Rattle.rows.specs.Codes.{condOf}
+use Rattle.rows.specs.Run.{twentyBits}
 use Rattle.shortest.specs.Digits.{digits}
-use Rattle.shortest.specs.Search.{condByte}
+use Rattle.shortest.specs.Search.{means, condByte}
 use Rattle.shortest.specs.Coarse.{wholeRow}
 
 -- how many bytes of displacement a name asks for, bit numbers among them
@@ -59,3 +64,23 @@ unfoldable pub numbers : Face → ℕ → Record → List ℕ
 numbers f c t =
     digits (before f) (front (behind f) t)
     ++ (digits (behind f) (t .dispabs) ++ (digits (other f) (t .«imm_wide») ++ digits c (condByte (t .opcode))))
+
+-- whether the numbers of a record fit there: a displacement and another number in their bytes, 20 bits of three; a condition has a byte
+abbrev pub fitting : ℕ → ℕ → Bool
+fitting zero v = true
+fitting (suc n) v = ltb v (256 ^ suc n)
+
+abbrev pub fittingNumber : ℕ → ℕ → Bool
+fittingNumber zero v = true
+fittingNumber (suc zero) v = ltb v (256 ^ 1)
+fittingNumber (suc (suc zero)) v = ltb v (256 ^ 2)
+fittingNumber (suc (suc (suc n))) v = ltb v twentyBits
+
+abbrev pub fittingCondition : ℕ → Opcode → Bool
+fittingCondition zero o = true
+fittingCondition (suc n) o = means (condOf (condByte o)) o
+
+unfoldable pub allFitting : Face → ℕ → Record → Bool
+allFitting f c t =
+    both (fitting (before f) (front (behind f) t))
+    (both (fitting (behind f) (t .dispabs)) (both (fittingNumber (other f) (t .«imm_wide»)) (fittingCondition c (t .opcode))))
