@@ -142,3 +142,7 @@ fitted a b e l v t =
     let w = document01 .rowAt a b in
     let n = named a b e l v in
     slim-fits (w .reads) t ∙ ap (λ rs. fits rs t) (n .reads) ∙ in-all t (w .face) (conds (w .reads)) (n .number)
+
+pub as-named : (a b : ℕ) → known a ≡ true → b < 256 → live (document01 .rowAt a b) ≡ true
+    → slim (document01 .rowAt a b .reads) ≡ readsOf (document01 .rowAt a b .face) (conds (document01 .rowAt a b .reads))
+as-named a b e l v = named a b e l v .reads

@@ -3,3 +3,4 @@ pub mod Room
 pub mod Slim
 pub mod Asks
 pub mod Bare
+pub mod Sayable

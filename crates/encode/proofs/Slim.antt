@@ -14,7 +14,7 @@ use Rattle.rows.specs.Codes.{condOf}
 use Rattle.rows.specs.Run.{twentyBits}
 use Rattle.shortest.specs.Digits.{digits}
 use Rattle.shortest.specs.Can.{fits}
-use Rattle.shortest.specs.Search.{means, condByte, disps, nth, spell}
+use Rattle.shortest.specs.Search.{means, condByte, disps, imms, nth, spell}
 use Rattle.shortest.proofs.Condition.{so}
 
 -- reads without those of no byte
@@ -97,6 +97,16 @@ slim-disps (num (imm n) ∷ rs) = slim-disps rs
 slim-disps (num imm20 ∷ rs) = slim-disps rs
 slim-disps (cond ∷ rs) = slim-disps rs
 slim-disps (stop e ∷ rs) = slim-disps rs
+
+pub slim-imms : (rs : List Read) → imms rs ≡ imms (slim rs)
+unfolding slim imms
+slim-imms [] = refl
+slim-imms (num (disp zero) ∷ rs) = slim-imms rs
+slim-imms (num (disp (suc n)) ∷ rs) = slim-imms rs
+slim-imms (num (imm n) ∷ rs) = ap suc (slim-imms rs)
+slim-imms (num imm20 ∷ rs) = ap suc (slim-imms rs)
+slim-imms (cond ∷ rs) = slim-imms rs
+slim-imms (stop e ∷ rs) = slim-imms rs
 
 pub slim-spell : (rs : List Read) (t : Record) → spell rs t ≡ spell (slim rs) t
 unfolding slim spell

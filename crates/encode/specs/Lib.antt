@@ -1,3 +1,4 @@
 pub mod Plan
 pub mod Asks
 pub mod Bare
+pub mod Sayable

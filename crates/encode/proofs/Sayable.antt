@@ -1,0 +1,71 @@
+-- A live row of document 01 can say a key if its names, its own number and its condition allow it.
+-- Assumes nothing.
+use Prim.Native.Nat.{ℕ, zero, suc, _<_}
+use mathlib.Core.Path.{_≡_, refl, ap, ap₂, _∙_}
+use mathlib.Core.Bool.{Bool, true}
+use mathlib.Core.List.{List, [], _∷_, _++_}
+use lib.Dec.{eqb}
+use Rattle.tests.specs.Choice.{both}
+use Rattle.record.specs.declared.Operand.the-variants.{Nothing}
+use Rattle.record.specs.Numbers.{sizeNo, widthNo, operandNo}
+use Rattle.record.specs.Same.{Field, nowhere, wide, short, early, fieldOf, baseOf, Key}
+use Rattle.rows.specs.Row.{disp, imm, imm20, Read, num, cond, stop, Face}
+use Rattle.rows.specs.Rows.{known, document01}
+use Rattle.shortest.specs.Search.{imms, conds, live, aim}
+use Rattle.shortest.specs.Can.{exact, named, fits, can}
+use Rattle.encode.specs.Asks.{displacement, number, condition, before, behind, other, readsOf, allFitting}
+use Rattle.encode.specs.Sayable.{sayable}
+use Rattle.encode.proofs.Slim.{slim, slim-imms}
+use Rattle.encode.proofs.Asks.{as-named, fitted}
+
+-- a number is read just where the names ask for one
+any : ℕ → ℕ
+any zero = 0
+any (suc n) = 1
+
+of-displacement : (n : ℕ) (rs : List Read) → imms (displacement n ++ rs) ≡ imms rs
+unfolding imms
+of-displacement zero rs = refl
+of-displacement (suc n) rs = refl
+
+of-number : (n c : ℕ) → imms (number n ++ condition c) ≡ any n
+unfolding imms any
+of-number zero zero = refl
+of-number zero (suc c) = refl
+of-number (suc zero) zero = refl
+of-number (suc zero) (suc c) = refl
+of-number (suc (suc zero)) zero = refl
+of-number (suc (suc zero)) (suc c) = refl
+of-number (suc (suc (suc n))) zero = refl
+of-number (suc (suc (suc n))) (suc c) = refl
+
+of-all : (f : Face) (c : ℕ) → imms (readsOf f c) ≡ any (other f)
+unfolding readsOf
+of-all f c = of-displacement (before f) _ ∙ of-displacement (behind f) _ ∙ of-number (other f) c
+
+exact-any : (x : Field) (n own v : ℕ) → exact x (any n) own v ≡ exact x n own v
+unfolding any
+exact-any nowhere n own v = refl
+exact-any short n own v = refl
+exact-any early n own v = refl
+exact-any wide zero own v = refl
+exact-any wide (suc n) own v = refl
+
+pub said : (a b : ℕ) → known a ≡ true → b < 256 → live (document01 .rowAt a b) ≡ true → (k : Key)
+    → can (document01 .rowAt a b) k ≡ sayable (document01 .rowAt a b .face) (document01 .rowAt a b .number) (conds (document01 .rowAt a b .reads)) k
+unfolding can sayable
+said a b e l v k =
+    let w = document01 .rowAt a b in
+    let f = w .face in
+    let i : imms (w .reads) ≡ any (other f) = slim-imms (w .reads) ∙ ap imms (as-named a b e l v) ∙ of-all f (conds (w .reads)) in
+    let x : (o : Field) (n : ℕ) → exact o (imms (w .reads)) (w .number) n ≡ exact o (other f) (w .number) n = λ o n. ap (λ m. exact o m (w .number) n) i ∙ exact-any o (other f) (w .number) n in
+    λ j. both (v j)
+    (both (named (conds (w .reads)) (f .opcode) (k .opcode))
+    (both (eqb (sizeNo (f .size)) (sizeNo (k .size)))
+    (both (eqb (widthNo (f .width)) (widthNo (k .width)))
+    (both (eqb (operandNo (baseOf (f .op0))) (operandNo (k .base0)))
+    (both (eqb (operandNo (baseOf (f .op1))) (operandNo (k .base1)))
+    (both (eqb (operandNo (baseOf Nothing)) (operandNo (k .base2)))
+    (both (eqb (k .number2) 0)
+    (both (x (fieldOf (f .op0)) (k .number0) j)
+    (both (x (fieldOf (f .op1)) (k .number1) j) (fitted a b e l v (aim f k) j))))))))))
