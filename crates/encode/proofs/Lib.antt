@@ -4,3 +4,4 @@ pub mod Slim
 pub mod Asks
 pub mod Bare
 pub mod Sayable
+pub mod Told

@@ -1,25 +1,25 @@
 -- A live row of document 01 can say a key if its names, its own number and its condition allow it.
 -- Assumes nothing.
 use Prim.Native.Nat.{ℕ, zero, suc, _<_}
-use mathlib.Core.Path.{_≡_, refl, ap, ap₂, _∙_}
-use mathlib.Core.Bool.{Bool, true}
-use mathlib.Core.List.{List, [], _∷_, _++_}
+use mathlib.Core.Path.{_≡_, refl, ap, _∙_}
+use mathlib.Core.Bool.{true}
+use mathlib.Core.List.{List, _++_}
 use lib.Dec.{eqb}
 use Rattle.tests.specs.Choice.{both}
 use Rattle.record.specs.declared.Operand.the-variants.{Nothing}
 use Rattle.record.specs.Numbers.{sizeNo, widthNo, operandNo}
 use Rattle.record.specs.Same.{Field, nowhere, wide, short, early, fieldOf, baseOf, Key}
-use Rattle.rows.specs.Row.{disp, imm, imm20, Read, num, cond, stop, Face}
+use Rattle.rows.specs.Row.{Read, Face}
 use Rattle.rows.specs.Rows.{known, document01}
 use Rattle.shortest.specs.Search.{imms, conds, live, aim}
-use Rattle.shortest.specs.Can.{exact, named, fits, can}
-use Rattle.encode.specs.Asks.{displacement, number, condition, before, behind, other, readsOf, allFitting}
+use Rattle.shortest.specs.Can.{exact, named, can}
+use Rattle.encode.specs.Asks.{displacement, number, condition, before, behind, other, readsOf}
 use Rattle.encode.specs.Sayable.{sayable}
-use Rattle.encode.proofs.Slim.{slim, slim-imms}
+use Rattle.encode.proofs.Slim.{slim-imms}
 use Rattle.encode.proofs.Asks.{as-named, fitted}
 
 -- a number is read just where the names ask for one
-any : ℕ → ℕ
+unfoldable pub any : ℕ → ℕ
 any zero = 0
 any (suc n) = 1
 
@@ -51,13 +51,19 @@ exact-any early n own v = refl
 exact-any wide zero own v = refl
 exact-any wide (suc n) own v = refl
 
+-- no number is read where none is asked for
+pub read-asked : (a b : ℕ) → known a ≡ true → b < 256 → live (document01 .rowAt a b) ≡ true → imms (document01 .rowAt a b .reads) ≡ any (other (document01 .rowAt a b .face))
+read-asked a b e l v =
+    let w = document01 .rowAt a b in
+    slim-imms (w .reads) ∙ ap imms (as-named a b e l v) ∙ of-all (w .face) (conds (w .reads))
+
 pub said : (a b : ℕ) → known a ≡ true → b < 256 → live (document01 .rowAt a b) ≡ true → (k : Key)
     → can (document01 .rowAt a b) k ≡ sayable (document01 .rowAt a b .face) (document01 .rowAt a b .number) (conds (document01 .rowAt a b .reads)) k
 unfolding can sayable
 said a b e l v k =
     let w = document01 .rowAt a b in
     let f = w .face in
-    let i : imms (w .reads) ≡ any (other f) = slim-imms (w .reads) ∙ ap imms (as-named a b e l v) ∙ of-all f (conds (w .reads)) in
+    let i = read-asked a b e l v in
     let x : (o : Field) (n : ℕ) → exact o (imms (w .reads)) (w .number) n ≡ exact o (other f) (w .number) n = λ o n. ap (λ m. exact o m (w .number) n) i ∙ exact-any o (other f) (w .number) n in
     λ j. both (v j)
     (both (named (conds (w .reads)) (f .opcode) (k .opcode))
