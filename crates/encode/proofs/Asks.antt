@@ -2,7 +2,7 @@
 -- Assumes nothing.
 use Prim.Native.Nat.{ℕ, zero, suc, _≤_, _<_}
 use mathlib.Core.Path.{_≡_, refl, sym, ap, ap₂, subst, _∙_}
-use mathlib.Core.Bool.{Bool, true, false}
+use mathlib.Core.Bool.{Bool, true}
 use mathlib.Core.List.{List, _++_, append-nil}
 use lib.Dec.{T, leb}
 use native.Mathlib.Omega.{arith}
@@ -18,30 +18,21 @@ use Rattle.shortest.specs.Digits.{digits}
 use Rattle.shortest.specs.Can.{fits}
 use Rattle.shortest.specs.Search.{condByte, disps, conds, nth, spell, live}
 use Rattle.shortest.specs.Coarse.{whole}
-use Rattle.shortest.proofs.Condition.{so, both-true}
-use Rattle.encode.specs.Asks.{near, far, displacement, number, condition, before, behind, other, readsOf, front, numbers, fitting, fittingNumber, fittingCondition, allFitting}
+use Rattle.shortest.proofs.Bools.{so, both-true, both-last, picked}
+use Rattle.encode.specs.Asks.{near, far, displacement, number, condition, before, behind, further, readsOf, front, numbers, fitting, fittingNumber, fittingCondition, allFitting}
 use Rattle.encode.proofs.Slim.{slim, oneNum, oneRead, oneList, one-list, slim-spell, slim-fits}
 
 asNamed : ℕ → ℕ → Bool
 asNamed a b =
     let w = document01 .rowAt a b in
-    pick (live w) (both (leb (other (w .face)) 3) (both (leb (conds (w .reads)) 1) (oneList (slim (w .reads)) (readsOf (w .face) (conds (w .reads)))))) true
+    pick (live w) (both (leb (further (w .face)) 3) (both (leb (conds (w .reads)) 1) (oneList (slim (w .reads)) (readsOf (w .face) (conds (w .reads)))))) true
 
 all-named : T (everyCode asNamed)
 unfolding everyCode asNamed rowsOf oneList oneRead oneNum slim readsOf near far is among conds fieldOf baseOf whole
 all-named = tt
 
-both-last : (b : Bool) → both b true ≡ b
-both-last true = refl
-both-last false = refl
-
--- a test that was asked where b holds
-pub picked : (b c : Bool) → T (pick b c true) → b ≡ true → T c
-picked true c t e = t
-picked false c t e = absurd (subst T (sym e) tt)
-
 record Named (w : Row) : Type 0 where
-  number : other (w .face) ≤ 3
+  number : further (w .face) ≤ 3
   condition : conds (w .reads) ≤ 1
   reads : slim (w .reads) ≡ readsOf (w .face) (conds (w .reads))
 
@@ -108,25 +99,25 @@ module _ (t : Record) where
   one-disp zero rs e = ap (λ d. nth d t) e
   one-disp (suc n) rs e = refl
 
-  of-all : (f : Face) (c : ℕ) → other f ≤ 3 → c ≤ 1 → spell (readsOf f c) t ≡ numbers f c t
+  of-all : (f : Face) (c : ℕ) → further f ≤ 3 → c ≤ 1 → spell (readsOf f c) t ≡ numbers f c t
   unfolding readsOf numbers
   of-all f c h k =
-      let rest = number (other f) ++ condition c in
-      let none = no-disps (other f) c in
+      let rest = number (further f) ++ condition c in
+      let none = no-disps (further f) c in
       of-displacement (before f) (displacement (behind f) ++ rest)
       ∙ ap₂ (λ v xs. digits (before f) v ++ xs) (one-disp (behind f) rest none)
       (of-displacement (behind f) rest
-      ∙ ap₂ (λ d xs. digits (behind f) (nth d t) ++ xs) none (of-number (other f) (condition c) h ∙ ap (λ xs. digits (other f) (t .«imm_wide») ++ xs) (of-condition c k)))
+      ∙ ap₂ (λ d xs. digits (behind f) (nth d t) ++ xs) none (of-number (further f) (condition c) h ∙ ap (λ xs. digits (further f) (t .«imm_wide») ++ xs) (of-condition c k)))
 
-  in-all : (f : Face) (c : ℕ) → other f ≤ 3 → fits (readsOf f c) t ≡ allFitting f c t
+  in-all : (f : Face) (c : ℕ) → further f ≤ 3 → fits (readsOf f c) t ≡ allFitting f c t
   unfolding readsOf allFitting
   in-all f c h =
-      let rest = number (other f) ++ condition c in
-      let none = no-disps (other f) c in
+      let rest = number (further f) ++ condition c in
+      let none = no-disps (further f) c in
       in-displacement (before f) (displacement (behind f) ++ rest)
       ∙ ap₂ (λ v x. both (fitting (before f) v) x) (one-disp (behind f) rest none)
       (in-displacement (behind f) rest
-      ∙ ap₂ (λ d x. both (fitting (behind f) (nth d t)) x) none (in-number (other f) (condition c) h ∙ ap (both (fittingNumber (other f) (t .«imm_wide»))) (in-condition c)))
+      ∙ ap₂ (λ d x. both (fitting (behind f) (nth d t)) x) none (in-number (further f) (condition c) h ∙ ap (both (fittingNumber (further f) (t .«imm_wide»))) (in-condition c)))
 
 -- so the bytes behind a code are those of four numbers, each of so many bytes as the names say
 pub spelled : (a b : ℕ) → known a ≡ true → b < 256 → live (document01 .rowAt a b) ≡ true → (t : Record)

@@ -1,8 +1,8 @@
 -- Decoding a code with zeros behind it tells whether its row is live, and if so the row's names.
 -- Assumes nothing.
 use Prim.Native.Nat.{ℕ, _<_}
-use mathlib.Core.Path.{_≡_, refl, sym, ap, _∙_}
-use mathlib.Core.Bool.{Bool, true, false}
+use mathlib.Core.Path.{_≡_, sym, ap, _∙_}
+use mathlib.Core.Bool.{Bool, true}
 use mathlib.Core.List.{[], _∷_}
 use native.Mathlib.Omega.{arith}
 use lib.Dec.{T, eqb}
@@ -15,11 +15,10 @@ use Rattle.rows.specs.Rows.{known, rowsOf, document01}
 use Rattle.rows.specs.Run.{readDisp, readImm, run, runRow, begun, decodeBy, decodeRows, refusal}
 use Rattle.rows.proofs.All.{every-code}
 use Rattle.shortest.specs.Search.{other, live}
-use Rattle.shortest.proofs.Condition.{so, both-true, both-so}
+use Rattle.shortest.proofs.Bools.{so, both-true, both-so, picked, level}
 use Rattle.shortest.proofs.Runs.{Runs, from-run}
 use Rattle.shortest.proofs.Spell.{Kept, kept, no-stop}
 use Rattle.encode.specs.Bare.{bare, unmarked}
-use Rattle.encode.proofs.Asks.{picked}
 
 -- zeros serve every live row
 served : ℕ → ℕ → Bool
@@ -28,11 +27,6 @@ served a b = pick (live (document01 .rowAt a b)) (eqb (decodeRows (bare a b) .re
 all-served : T (everyCode served)
 unfolding everyCode served rowsOf decodeBy runRow run condOf known readDisp readImm
 all-served = tt
-
-same-bool : (b c : Bool) → (b ≡ true → c ≡ true) → (c ≡ true → b ≡ true) → b ≡ c
-same-bool true c f g = sym (f refl)
-same-bool false true f g = g refl
-same-bool false false f g = refl
 
 module _ (a b : ℕ) (k : known a ≡ true) (h : a < 256) (l : b < 256) where
   w : Row
@@ -52,7 +46,7 @@ module _ (a b : ℕ) (k : known a ≡ true) (h : a < 256) (l : b < 256) where
 
   pub lives : live (document01 .rowAt a b) ≡ unmarked (decodeRows (bare a b))
   unfolding w served
-  lives = same-bool _ _ there back
+  lives = level _ _ there back
     where
       there : live w ≡ true → unmarked (decodeRows (bare a b)) ≡ true
       there v =

@@ -13,7 +13,7 @@ use Rattle.rows.specs.Row.{Read, Face}
 use Rattle.rows.specs.Rows.{known, document01}
 use Rattle.shortest.specs.Search.{imms, conds, live, aim}
 use Rattle.shortest.specs.Can.{exact, named, can}
-use Rattle.encode.specs.Asks.{displacement, number, condition, before, behind, other, readsOf}
+use Rattle.encode.specs.Asks.{displacement, number, condition, before, behind, further, readsOf}
 use Rattle.encode.specs.Sayable.{sayable}
 use Rattle.encode.proofs.Slim.{slim-imms}
 use Rattle.encode.proofs.Asks.{as-named, fitted}
@@ -39,9 +39,9 @@ of-number (suc (suc zero)) (suc c) = refl
 of-number (suc (suc (suc n))) zero = refl
 of-number (suc (suc (suc n))) (suc c) = refl
 
-of-all : (f : Face) (c : ℕ) → imms (readsOf f c) ≡ any (other f)
+of-all : (f : Face) (c : ℕ) → imms (readsOf f c) ≡ any (further f)
 unfolding readsOf
-of-all f c = of-displacement (before f) _ ∙ of-displacement (behind f) _ ∙ of-number (other f) c
+of-all f c = of-displacement (before f) _ ∙ of-displacement (behind f) _ ∙ of-number (further f) c
 
 exact-any : (x : Field) (n own v : ℕ) → exact x (any n) own v ≡ exact x n own v
 unfolding any
@@ -52,7 +52,7 @@ exact-any wide zero own v = refl
 exact-any wide (suc n) own v = refl
 
 -- no number is read where none is asked for
-pub read-asked : (a b : ℕ) → known a ≡ true → b < 256 → live (document01 .rowAt a b) ≡ true → imms (document01 .rowAt a b .reads) ≡ any (other (document01 .rowAt a b .face))
+pub read-asked : (a b : ℕ) → known a ≡ true → b < 256 → live (document01 .rowAt a b) ≡ true → imms (document01 .rowAt a b .reads) ≡ any (further (document01 .rowAt a b .face))
 read-asked a b e l v =
     let w = document01 .rowAt a b in
     slim-imms (w .reads) ∙ ap imms (as-named a b e l v) ∙ of-all (w .face) (conds (w .reads))
@@ -64,7 +64,7 @@ said a b e l v k =
     let w = document01 .rowAt a b in
     let f = w .face in
     let i = read-asked a b e l v in
-    let x : (o : Field) (n : ℕ) → exact o (imms (w .reads)) (w .number) n ≡ exact o (other f) (w .number) n = λ o n. ap (λ m. exact o m (w .number) n) i ∙ exact-any o (other f) (w .number) n in
+    let x : (o : Field) (n : ℕ) → exact o (imms (w .reads)) (w .number) n ≡ exact o (further f) (w .number) n = λ o n. ap (λ m. exact o m (w .number) n) i ∙ exact-any o (further f) (w .number) n in
     λ j. both (v j)
     (both (named (conds (w .reads)) (f .opcode) (k .opcode))
     (both (eqb (sizeNo (f .size)) (sizeNo (k .size)))

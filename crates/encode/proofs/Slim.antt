@@ -15,7 +15,7 @@ use Rattle.rows.specs.Run.{twentyBits}
 use Rattle.shortest.specs.Digits.{digits}
 use Rattle.shortest.specs.Can.{fits}
 use Rattle.shortest.specs.Search.{means, condByte, disps, imms, nth, spell}
-use Rattle.shortest.proofs.Condition.{so}
+use Rattle.shortest.proofs.Bools.{so}
 
 -- reads without those of no byte
 unfoldable pub slim : List Read → List Read

@@ -18,12 +18,11 @@ use Rattle.rows.specs.Run.{begun, decodeRows}
 use Rattle.rows.proofs.All.{every-code}
 use Rattle.shortest.specs.Search.{conds, live, aim}
 use Rattle.shortest.specs.Can.{exact, named, can}
-use Rattle.shortest.proofs.Condition.{so, both-true}
+use Rattle.shortest.proofs.Bools.{so, both-true, picked}
 use Rattle.shortest.proofs.Spell.{Kept}
-use Rattle.encode.specs.Asks.{other, allFitting}
+use Rattle.encode.specs.Asks.{further, allFitting}
 use Rattle.encode.specs.Bare.{bare, unmarked, faceOf, conditions, tells}
 use Rattle.encode.specs.Sayable.{sayable}
-use Rattle.encode.proofs.Asks.{picked}
 use Rattle.encode.proofs.Bare.{names, lives}
 use Rattle.encode.proofs.Sayable.{any, said, read-asked}
 
@@ -67,7 +66,7 @@ module _ (a b : ℕ) (e : known a ≡ true) (h : a < 256) (l : b < 256) (k : Key
   by-names v s =
       let f = w .face in
       let c = conds (w .reads) in
-      let own : other f ≡ 0 → x .«imm_wide» ≡ w .number = λ z. s .number (read-asked a b e l v ∙ ap any z) in
+      let own : further f ≡ 0 → x .«imm_wide» ≡ w .number = λ z. s .number (read-asked a b e l v ∙ ap any z) in
       let opcode-and-number : sayable f (w .number) c k ≡ sayable (record { opcode = x .opcode; size = f .size; width = f .width; op0 = f .op0; op1 = f .op1; marked = f .marked }) (x .«imm_wide») c k =
       λ j. both (named-by c (x .opcode) (f .opcode) (k .opcode) (s .opcode) j)
       (both (eqb (sizeNo (f .size)) (sizeNo (k .size)))
@@ -76,8 +75,8 @@ module _ (a b : ℕ) (e : known a ≡ true) (h : a < 256) (l : b < 256) (k : Key
       (both (eqb (operandNo (baseOf (f .op1))) (operandNo (k .base1)))
       (both (eqb (operandNo (baseOf Nothing)) (operandNo (k .base2)))
       (both (eqb (k .number2) 0)
-      (both (exact-by (fieldOf (f .op0)) (other f) (x .«imm_wide») (w .number) (k .number0) own j)
-      (both (exact-by (fieldOf (f .op1)) (other f) (x .«imm_wide») (w .number) (k .number1) own j)
+      (both (exact-by (fieldOf (f .op0)) (further f) (x .«imm_wide») (w .number) (k .number0) own j)
+      (both (exact-by (fieldOf (f .op1)) (further f) (x .«imm_wide») (w .number) (k .number1) own j)
       (allFitting f c (aim f k)))))))))) in
       opcode-and-number
       ∙ (λ j. sayable (record { opcode = x .opcode; size = sym (s .size) j; width = sym (s .width) j; op0 = sym (s .op0) j; op1 = sym (s .op1) j; marked = sym (s .marked) j }) (x .«imm_wide») c k)

@@ -48,11 +48,11 @@ abbrev pub behind : Face → ℕ
 behind f = pick (is (f .op0) «Disp8_SP») 1 (near (f .op1))
 
 -- a number that is part of the code is not read
-abbrev pub other : Face → ℕ
-other f = pick (wholeRow f) 0 (far (f .op0) + far (f .op1))
+abbrev pub further : Face → ℕ
+further f = pick (wholeRow f) 0 (far (f .op0) + far (f .op1))
 
 unfoldable pub readsOf : Face → ℕ → List Read
-readsOf f c = displacement (before f) ++ (displacement (behind f) ++ (number (other f) ++ condition c))
+readsOf f c = displacement (before f) ++ (displacement (behind f) ++ (number (further f) ++ condition c))
 
 -- the number of a displacement that another, of n bytes, is read behind
 abbrev pub front : ℕ → Record → ℕ
@@ -63,7 +63,7 @@ front (suc n) t = t .first
 unfoldable pub numbers : Face → ℕ → Record → List ℕ
 numbers f c t =
     digits (before f) (front (behind f) t)
-    ++ (digits (behind f) (t .dispabs) ++ (digits (other f) (t .«imm_wide») ++ digits c (condByte (t .opcode))))
+    ++ (digits (behind f) (t .dispabs) ++ (digits (further f) (t .«imm_wide») ++ digits c (condByte (t .opcode))))
 
 -- whether the numbers of a record fit there: a displacement and another number in their bytes, 20 bits of three; a condition has a byte
 abbrev pub fitting : ℕ → ℕ → Bool
@@ -83,4 +83,4 @@ fittingCondition (suc n) o = means (condOf (condByte o)) o
 unfoldable pub allFitting : Face → ℕ → Record → Bool
 allFitting f c t =
     both (fitting (before f) (front (behind f) t))
-    (both (fitting (behind f) (t .dispabs)) (both (fittingNumber (other f) (t .«imm_wide»)) (fittingCondition c (t .opcode))))
+    (both (fitting (behind f) (t .dispabs)) (both (fittingNumber (further f) (t .«imm_wide»)) (fittingCondition c (t .opcode))))

@@ -9,7 +9,7 @@ use Rattle.record.specs.Same.{fieldOf, baseOf, Key}
 use Rattle.rows.specs.Row.{Face}
 use Rattle.shortest.specs.Search.{aim}
 use Rattle.shortest.specs.Can.{exact, named}
-use Rattle.encode.specs.Asks.{other, allFitting}
+use Rattle.encode.specs.Asks.{further, allFitting}
 
 unfoldable pub sayable : Face → ℕ → ℕ → Key → Bool
 sayable f own c k =
@@ -20,6 +20,6 @@ sayable f own c k =
     (both (eqb (operandNo (baseOf (f .op1))) (operandNo (k .base1)))
     (both (eqb (operandNo (baseOf Nothing)) (operandNo (k .base2)))
     (both (eqb (k .number2) 0)
-    (both (exact (fieldOf (f .op0)) (other f) own (k .number0))
-    (both (exact (fieldOf (f .op1)) (other f) own (k .number1))
+    (both (exact (fieldOf (f .op0)) (further f) own (k .number0))
+    (both (exact (fieldOf (f .op1)) (further f) own (k .number1))
     (allFitting f c (aim f k))))))))))

@@ -16,7 +16,7 @@ use Rattle.rows.specs.Row.{Row}
 use Rattle.rows.specs.Run.{begun}
 use Rattle.shortest.specs.Search.{disps, imms, conds, spell, other, live, aim, plain, shorts, wides, wideFor, dispFor, firstFor}
 use Rattle.shortest.specs.Can.{exact, fits, named, can}
-use Rattle.shortest.proofs.Condition.{both-true, both-so}
+use Rattle.shortest.proofs.Bools.{both-true, both-so}
 use Rattle.shortest.proofs.Runs.{Runs}
 use Rattle.shortest.proofs.Spell.{kept}
 use Rattle.shortest.proofs.Plain.{plain-is, live-is, lives}

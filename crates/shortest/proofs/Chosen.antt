@@ -14,7 +14,7 @@ use Rattle.shortest.specs.Says.{Right}
 use Rattle.shortest.specs.Search.{imms, best}
 use Rattle.shortest.specs.Coarse.{regular, coarse, wholeKey, whole, roughly}
 use Rattle.shortest.specs.Choose.{choose, chooseBy, narrow, encoded}
-use Rattle.shortest.proofs.Condition.{so}
+use Rattle.shortest.proofs.Bools.{so}
 use Rattle.shortest.proofs.Optimal.{unique}
 use Rattle.shortest.proofs.Here.{plains, by-search}
 use Rattle.shortest.proofs.Direct.{direct}

@@ -24,7 +24,8 @@ use Rattle.shortest.specs.Search.{means, condByte, disps, imms, conds, n
 use Rattle.shortest.specs.Can.{exact, fits, named, can}
 use Rattle.shortest.specs.Direct.{Choice, code, nothing, rank, there, able, Beats}
 use Rattle.shortest.specs.Coarse.{classOf, rep, whole, wholeKey, wholeRow, roughly, coarse, sized, alone, regular, keyAt, span, onCond, opcodes, beatsb, ifb, good, liveTest, codeTest}
-use Rattle.shortest.proofs.Condition.{so, both-true, both-so, so-means, cond-small}
+use Rattle.shortest.proofs.Bools.{so, both-true, both-so}
+use Rattle.shortest.proofs.Condition.{so-means, cond-small}
 use Rattle.shortest.proofs.Runs.{own}
 use Rattle.shortest.proofs.Order.{first-true}
 use Rattle.shortest.proofs.Plain.{live-is}

@@ -1,13 +1,13 @@
--- A condition's byte is known by its opcode, and tests joined by `both`.
+-- A condition's byte is known by its opcode.
 -- Assumes nothing.
 use Prim.Native.Nat.{ℕ, _<_}
-use mathlib.Core.Path.{_≡_, refl, ap, ap₂, _∙_, subst}
+use mathlib.Core.Path.{_≡_, refl, ap, _∙_, subst}
 use mathlib.Core.Bool.{Bool, true, false}
 use mathlib.Core.List.{List, [], _∷_}
 use native.Mathlib.Omega.{arith}
 use lib.Dec.{T, eqb}
 use borrow.Author.Tests.{eqb-true, eq-eqb}
-use Rattle.tests.specs.Choice.{pick, both}
+use Rattle.tests.specs.Choice.{pick}
 use Rattle.tests.specs.Range.{upto}
 use Rattle.tests.proofs.Range.{upto-at}
 use Rattle.record.specs.declared.Opcode.{Opcode}
@@ -16,18 +16,8 @@ use Rattle.record.proofs.Apart.{opcodes-apart}
 use Rattle.rows.specs.Row.{Condition, is, isnt}
 use Rattle.rows.specs.Codes.{condOf}
 use Rattle.shortest.specs.Says.{Bytes}
+use Rattle.shortest.proofs.Bools.{so}
 use Rattle.shortest.specs.Search.{means, seek, condBytes, condByte}
-
-pub so : (b : Bool) → T b → b ≡ true
-so true t = refl
-so false t = absurd t
-
-pub both-true : (a b : Bool) → both a b ≡ true → (a ≡ true) × (b ≡ true)
-both-true true b e = (refl, e)
-both-true false b e = let z : _≡_ {A = ℕ} 0 1 = cc in absurd (omega arith)
-
-pub both-so : {a b : Bool} → a ≡ true → b ≡ true → both a b ≡ true
-both-so {a} {b} p q = ap₂ both p q
 
 abbrev backs : Condition → ℕ → Bool
 backs (is o) v = eqb (condByte o) v

@@ -1,7 +1,7 @@
 -- If a choice beats every code that can say the key, its bytes are the right answer.
 -- Assumes nothing.
 use Prim.Native.Nat.{ℕ, zero, suc, _+_, _<_}
-use mathlib.Core.Path.{_≡_, refl, sym, ap₂, _∙_, subst}
+use mathlib.Core.Path.{_≡_, refl, ap₂, _∙_, subst}
 use mathlib.Core.Bool.{Bool, true, false}
 use mathlib.Core.List.{List, [], _∷_, _++_}
 use native.Mathlib.Omega.{arith}
@@ -18,7 +18,7 @@ use Rattle.shortest.specs.Says.{Bytes, First, Ahead, Says, bytes, none, 
 use Rattle.shortest.specs.Search.{condByte, spell, aim, plain, agrees, bytesBy}
 use Rattle.shortest.specs.Can.{can}
 use Rattle.shortest.specs.Direct.{Choice, code, nothing, rank, able, taken, Beats}
-use Rattle.shortest.proofs.Condition.{both-true, both-so}
+use Rattle.shortest.proofs.Bools.{both-true, both-so, level}
 use Rattle.shortest.proofs.Runs.{digits-length, own}
 use Rattle.shortest.proofs.Plain.{live-is}
 use Rattle.shortest.proofs.Order.{ahead-trans, first-refl}
@@ -75,11 +75,6 @@ module _ (t : Table) (plains : (a b : ℕ) → t .known a ≡ true → b < 256 �
   able-agrees a b r ha hb =
       level _ _ (λ e. says-so t (bytesBy t a b (key r)) r (can-code a b r (able-is a b (key r) e)))
       (λ e. code-can a b _ r (ha, (hb, spell-bytes (t .rowAt a b .reads) (aim (t .rowAt a b .face) (key r)))) (so-says t (bytesBy t a b (key r)) r e))
-    where
-      level : (x y : Bool) → (x ≡ true → y ≡ true) → (y ≡ true → x ≡ true) → x ≡ y
-      level true y f g = sym (f refl)
-      level false true f g = g refl
-      level false false f g = refl
 
   no-refusal : (w : Row) (k : Key) → can w k ≡ true → fate (w .reads) ≡ 0
   no-refusal w k e = live-is w (parts w k e .lives) .1

@@ -17,7 +17,8 @@ use Rattle.rows.specs.Fate.{fate}
 use Rattle.rows.specs.Run.{withDisp, withImm, twentyBits, past, renamed}
 use Rattle.shortest.specs.Search.{means, condByte, disps, imms, conds, nth, spell, tidy}
 use Rattle.shortest.specs.Can.{fits}
-use Rattle.shortest.proofs.Condition.{both-true, both-so, condition, cond-small, means-so, so-means}
+use Rattle.shortest.proofs.Bools.{both-true, both-so}
+use Rattle.shortest.proofs.Condition.{condition, cond-small, means-so, so-means}
 use Rattle.shortest.proofs.Runs.{Runs, made, own}
 use Rattle.shortest.proofs.Spell.{kept, nth-is}
 use Rattle.shortest.proofs.Aim.{nth-same}

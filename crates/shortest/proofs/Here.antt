@@ -11,7 +11,7 @@ use Rattle.rows.specs.Rows.{known, rowsOf, document01}
 use Rattle.rows.proofs.All.{every-code}
 use Rattle.shortest.specs.Says.{Right}
 use Rattle.shortest.specs.Search.{disps, imms, conds, tidy, plain, best}
-use Rattle.shortest.proofs.Condition.{so}
+use Rattle.shortest.proofs.Bools.{so}
 use Rattle.shortest.proofs.Optimal.{optimal}
 
 plainAt : ℕ → ℕ → Bool

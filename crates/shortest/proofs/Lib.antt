@@ -1,3 +1,4 @@
+pub mod Bools
 pub mod Digits
 pub mod Order
 pub mod Runs

@@ -19,7 +19,7 @@ use Rattle.rows.specs.Run.{runRow, begun, decodeBy, refusal}
 use Rattle.shortest.specs.Digits.{digits}
 use Rattle.shortest.specs.Says.{Bytes, Ahead, Says, Found, bytes, none, Right}
 use Rattle.shortest.specs.Search.{disps, imms, spell, aim, other, plain, alike, agrees, aheadb, better, bytesBy, leastOf, try, best}
-use Rattle.shortest.proofs.Condition.{both-true, both-so}
+use Rattle.shortest.proofs.Bools.{both-true, both-so}
 use Rattle.shortest.proofs.Runs.{good, Runs, from-run, to-run}
 use Rattle.shortest.proofs.Spell.{least, kept}
 use Rattle.shortest.proofs.Aim.{aimed}

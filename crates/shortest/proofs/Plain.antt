@@ -12,7 +12,7 @@ use Rattle.rows.specs.Row.{Row}
 use Rattle.rows.specs.Fate.{fate}
 use Rattle.rows.specs.Run.{begun}
 use Rattle.shortest.specs.Search.{disps, imms, other, live, tidy, shortsOf, widesOf, plain}
-use Rattle.shortest.proofs.Condition.{both-true}
+use Rattle.shortest.proofs.Bools.{both-true}
 use Rattle.shortest.proofs.Runs.{Runs}
 use Rattle.shortest.proofs.Spell.{kept, no-stop}
 

@@ -15,7 +15,8 @@ use Rattle.rows.specs.Fate.{fate}
 use Rattle.rows.specs.Run.{withDisp, withImm, twentyBits, past, renamed}
 use Rattle.shortest.specs.Digits.{digits}
 use Rattle.shortest.specs.Search.{condByte, disps, imms, conds, nth, spell, tidy}
-use Rattle.shortest.proofs.Condition.{both-true, condition}
+use Rattle.shortest.proofs.Bools.{both-true}
+use Rattle.shortest.proofs.Condition.{condition}
 use Rattle.shortest.proofs.Runs.{Runs}
 use Rattle.shortest.proofs.Order.{Below}
 

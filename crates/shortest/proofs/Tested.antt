@@ -15,7 +15,7 @@ use Rattle.shortest.specs.Search.{condByte, disps, imms, conds, aim}
 use Rattle.shortest.specs.Can.{fits, can}
 use Rattle.shortest.specs.Choose.{choose, chooseBy, place}
 use Rattle.shortest.specs.Coarse.{codeTest, whole}
-use Rattle.shortest.proofs.Condition.{so}
+use Rattle.shortest.proofs.Bools.{so}
 
 -- every code with the first byte a
 abbrev Tested : ℕ → Type 0
