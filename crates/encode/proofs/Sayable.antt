@@ -8,7 +8,8 @@ use lib.Dec.{eqb}
 use Rattle.tests.specs.Choice.{both}
 use Rattle.record.specs.declared.Operand.the-variants.{Nothing}
 use Rattle.record.specs.Numbers.{sizeNo, widthNo, operandNo}
-use Rattle.record.specs.Same.{Field, nowhere, wide, short, early, fieldOf, baseOf, Key}
+use Rattle.record.specs.declared.Key.{Key}
+use Rattle.record.specs.Same.{Field, nowhere, wide, short, early, fieldOf, baseOf}
 use Rattle.rows.specs.Row.{Read, Face}
 use Rattle.rows.specs.Rows.{known, document01}
 use Rattle.shortest.specs.Search.{imms, conds, live, aim}

@@ -10,7 +10,8 @@ use Rattle.record.specs.declared.Opcode.{Opcode}
 use Rattle.record.specs.declared.Record.{Record}
 use Rattle.record.specs.declared.Operand.the-variants.{Nothing}
 use Rattle.record.specs.Numbers.{opcodeNo, sizeNo, widthNo, operandNo}
-use Rattle.record.specs.Same.{Field, nowhere, wide, short, early, fieldOf, baseOf, Key}
+use Rattle.record.specs.declared.Key.{Key}
+use Rattle.record.specs.Same.{Field, nowhere, wide, short, early, fieldOf, baseOf}
 use Rattle.rows.specs.All.{everyCode}
 use Rattle.rows.specs.Row.{Row}
 use Rattle.rows.specs.Rows.{known, rowsOf, document01}

@@ -6,7 +6,7 @@ use lib.Dec.{eqb}
 use Rattle.tests.specs.Choice.{pick, both}
 use Rattle.record.specs.declared.Record.{Record}
 use Rattle.record.specs.declared.Answer.{Answer}
-use Rattle.record.specs.Same.{Key}
+use Rattle.record.specs.declared.Key.{Key}
 use Rattle.rows.specs.Row.{Face}
 use Rattle.shortest.specs.Search.{other}
 use Rattle.encode.specs.Sayable.{sayable}

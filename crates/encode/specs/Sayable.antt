@@ -5,7 +5,8 @@ use lib.Dec.{eqb}
 use Rattle.tests.specs.Choice.{both}
 use Rattle.record.specs.declared.Operand.the-variants.{Nothing}
 use Rattle.record.specs.Numbers.{sizeNo, widthNo, operandNo}
-use Rattle.record.specs.Same.{fieldOf, baseOf, Key}
+use Rattle.record.specs.declared.Key.{Key}
+use Rattle.record.specs.Same.{fieldOf, baseOf}
 use Rattle.rows.specs.Row.{Face}
 use Rattle.shortest.specs.Search.{aim}
 use Rattle.shortest.specs.Can.{exact, named}

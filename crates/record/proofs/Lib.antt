@@ -1,3 +1,4 @@
 pub mod Apart
+pub mod Arms
 pub mod Same
 pub mod Outcomes

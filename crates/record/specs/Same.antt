@@ -5,9 +5,7 @@ use mathlib.Core.Bool.{Bool, true, false}
 use mathlib.Core.List.{List, [], _∷_}
 use lib.Dec.{eqb}
 use Rattle.record.specs.declared.Record.{Record}
-use Rattle.record.specs.declared.Opcode.{Opcode}
-use Rattle.record.specs.declared.Size.{Size}
-use Rattle.record.specs.declared.Width.{Width}
+use Rattle.record.specs.declared.Key.{Key}
 use Rattle.record.specs.declared.Operand.{Operand}
 use Rattle.record.specs.declared.Operand.the-variants.{Imm4, Imm8, Imm16, RegList, Abs16, Abs20, Disp8, «Deref_A0», «Deref_A1», «Disp8_A0», «Disp8_A1», «Disp8_SB», «Disp8_FB», «Disp8_SP», «Disp16_A0», «Disp16_A1», «Disp16_SB», «Disp20_A0», «Disp20_A1», «Bit_R0», «Bit_R1», «Bit_R2», «Bit_R3», «Bit_A0», «Bit_A1», «Bit_Disp8_A0», «Bit_Disp8_A1», «Bit_Disp8_SB», «Bit_Disp8_FB», «Bit_Disp16_A0», «Bit_Disp16_A1», «Bit_Disp16_SB», «Bit_Abs16»}
 use Rattle.record.specs.Numbers.{operandNo}
@@ -67,17 +65,6 @@ valueOf short r = r .dispabs
 valueOf early r = r .first
 
 -- all that counts: not length, not marked, no field that no operand names. (No row has a third operand; in a record made otherwise its number is its name's field.)
-pub record Key : Type 0 where
-  pub opcode : Opcode
-  pub size : Size
-  pub width : Width
-  pub base0 : Operand
-  pub base1 : Operand
-  pub base2 : Operand
-  pub number0 : ℕ
-  pub number1 : ℕ
-  pub number2 : ℕ
-
 abbrev pub key : Record → Key
 key r = record {
   opcode = r .opcode;

@@ -196,6 +196,19 @@ pub struct Record {
     pub marked: bool,
 }
 
+// All that counts of a record: two records are the same instruction if these agree.
+pub struct Key {
+    pub opcode: Opcode,
+    pub size: Size,
+    pub width: Width,
+    pub base0: Operand,
+    pub base1: Operand,
+    pub base2: Operand,
+    pub number0: u32,
+    pub number1: u32,
+    pub number2: u32,
+}
+
 // Refusal 0 and the record, or a refusal's number and the blank record; and the bytes taken, either way.
 pub struct Answer {
     pub inst: Record,

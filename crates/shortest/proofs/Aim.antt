@@ -7,7 +7,8 @@ use mathlib.Core.List.{List, [], _∷_, _++_}
 use native.Mathlib.Omega.{arith}
 use Rattle.record.specs.declared.Record.{Record}
 use Rattle.record.specs.declared.Operand.the-variants.{«Disp8_SP»}
-use Rattle.record.specs.Same.{is, Field, nowhere, wide, short, early, fieldOf, shared, field0, field1, valueOf, Key, key}
+use Rattle.record.specs.declared.Key.{Key}
+use Rattle.record.specs.Same.{is, Field, nowhere, wide, short, early, fieldOf, shared, field0, field1, valueOf, key}
 use Rattle.rows.specs.Row.{disp, imm, imm20, Read, num, cond, stop, Face}
 use Rattle.shortest.specs.Digits.{digits}
 use Rattle.shortest.specs.Search.{condByte, disps, imms, nth, spell, aim, other, shorts, wides, shortsOf, widesOf, wideFor, dispFor, firstFor}

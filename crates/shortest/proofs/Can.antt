@@ -10,7 +10,8 @@ use Rattle.record.specs.declared.Record.{Record}
 use Rattle.record.specs.declared.Opcode.{Opcode}
 use Rattle.record.specs.declared.Operand.the-variants.{Nothing, «Disp8_SP»}
 use Rattle.record.specs.Numbers.{opcodeNo, sizeNo, widthNo, operandNo}
-use Rattle.record.specs.Same.{is, Field, nowhere, wide, short, early, fieldOf, shared, field0, field1, valueOf, baseOf, Key, key}
+use Rattle.record.specs.declared.Key.{Key}
+use Rattle.record.specs.Same.{is, Field, nowhere, wide, short, early, fieldOf, shared, field0, field1, valueOf, baseOf, key}
 use Rattle.record.proofs.Apart.{opcodes-apart, sizes-apart, widths-apart, operands-apart}
 use Rattle.rows.specs.Row.{Row}
 use Rattle.rows.specs.Run.{begun}

@@ -6,7 +6,8 @@ use mathlib.Core.Bool.{Bool, true, false}
 use lib.Dec.{T}
 use Rattle.tests.specs.Choice.{pick}
 use Rattle.record.specs.declared.Record.{Record}
-use Rattle.record.specs.Same.{baseOf, fieldOf, Key, key}
+use Rattle.record.specs.declared.Key.{Key}
+use Rattle.record.specs.Same.{baseOf, fieldOf, key}
 use Rattle.rows.specs.All.{everyCode}
 use Rattle.rows.specs.Rows.{known, rowsOf, document01}
 use Rattle.rows.proofs.All.{every-code}

@@ -14,7 +14,8 @@ use Rattle.record.specs.declared.Record.{Record}
 use Rattle.record.specs.declared.Opcode.{Opcode}
 use Rattle.record.specs.declared.Operand.the-variants.{Nothing, «Disp8_SP»}
 use Rattle.record.specs.Numbers.{sizeNo, widthNo, operandNo}
-use Rattle.record.specs.Same.{is, Field, nowhere, wide, short, early, fieldOf, baseOf, Key}
+use Rattle.record.specs.declared.Key.{Key}
+use Rattle.record.specs.Same.{is, Field, nowhere, wide, short, early, fieldOf, baseOf}
 use Rattle.record.proofs.Apart.{opcodes-apart}
 use Rattle.rows.specs.Row.{disp, imm, imm20, Read, num, cond, stop, Row, Table}
 use Rattle.rows.specs.Codes.{condOf}

@@ -9,7 +9,8 @@ use lib.ListN.{length, length-append}
 use borrow.Author.Tests.{ltb-true, lt-ltb}
 use Rattle.tests.specs.Choice.{pick}
 use Rattle.record.specs.declared.Record.{Record}
-use Rattle.record.specs.Same.{Key, key}
+use Rattle.record.specs.declared.Key.{Key}
+use Rattle.record.specs.Same.{key}
 use Rattle.rows.specs.Row.{disp, imm, imm20, Read, num, cond, stop, Row, Table}
 use Rattle.rows.specs.Fate.{fate, reach}
 use Rattle.rows.specs.Run.{decodeBy}

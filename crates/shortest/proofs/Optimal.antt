@@ -12,7 +12,8 @@ use Rattle.tests.specs.Choice.{pick}
 use Rattle.record.specs.declared.Record.{Record}
 use Rattle.record.specs.declared.Answer.{Answer}
 use Rattle.record.specs.Numbers.{opcodeNo, sizeNo, widthNo, operandNo}
-use Rattle.record.specs.Same.{Key, key}
+use Rattle.record.specs.declared.Key.{Key}
+use Rattle.record.specs.Same.{key}
 use Rattle.record.proofs.Apart.{opcodes-apart, sizes-apart, widths-apart, operands-apart}
 use Rattle.rows.specs.Row.{disp, imm, imm20, Read, num, cond, stop, Table}
 use Rattle.rows.specs.Run.{runRow, begun, decodeBy, refusal}

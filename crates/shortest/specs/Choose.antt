@@ -14,9 +14,11 @@ use Rattle.record.specs.declared.Width.{Width}
 use Rattle.record.specs.declared.Width.the-variants.{None, B, W}
 use Rattle.record.specs.declared.Operand.{Operand}
 use Rattle.record.specs.declared.Operand.the-variants.{Nothing, Imm4, R0L, R0, R2R0, R3R1, A1A0, Abs16, Abs20, «Deref_A0», «Deref_A1», «Disp8_A0», «Disp8_A1», «Disp8_SB», «Disp8_FB», «Disp8_SP», «Disp16_A0», «Disp16_A1», «Disp16_SB», «Disp20_A0», «Disp20_A1», «Bit_R0», «Bit_R1», «Bit_R2», «Bit_R3», «Bit_A0», «Bit_A1», «Bit_Deref_A0», «Bit_Deref_A1», «Bit_Disp8_A0», «Bit_Disp8_A1», «Bit_Disp8_SB», «Bit_Disp8_FB», «Bit_Disp16_A0», «Bit_Disp16_A1», «Bit_Disp16_SB», «Bit_Abs16», INTBL, INTBH, FLG, ISP, SP, SB, FB}
-use Rattle.record.specs.Same.{is, Field, nowhere, wide, short, early, fieldOf, Key, key}
+use Rattle.record.specs.declared.Key.{Key}
+use Rattle.record.specs.Same.{is, Field, nowhere, wide, short, early, fieldOf, key}
 use Rattle.rows.specs.Codes.{byteNames, wordNames}
 use Rattle.rows.specs.Rows.{document01}
+use Rattle.shortest.specs.declared.Asked.{Asked}
 use Rattle.shortest.specs.Says.{Found}
 use Rattle.shortest.specs.Direct.{Choice, code, nothing, taken}
 use Rattle.shortest.specs.Coarse.{wholeKey}
@@ -28,17 +30,7 @@ narrow o z s =
     (pick (is o «Disp16_A1») (pick z «Deref_A1» (pick s «Disp8_A1» «Disp16_A1»))
     (pick (is o «Disp16_SB») (pick s «Disp8_SB» «Disp16_SB») o))
 
--- what the choice asks of a key beside the opcode: its names, the shortest names, operand 0's shortest one with a number, and a number that is part of the code
-pub record Asked : Type 0 where
-  pub size : Size
-  pub width : Width
-  pub base0 : Operand
-  pub base1 : Operand
-  pub near0 : Operand
-  pub near1 : Operand
-  pub far0 : Operand
-  pub number : ℕ
-
+-- what the choice asks of a key beside the opcode
 abbrev pub asked : Key → Asked
 asked k = record {
   size = k .size;

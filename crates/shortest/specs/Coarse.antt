@@ -11,7 +11,8 @@ use Rattle.record.specs.declared.Width.{Width}
 use Rattle.record.specs.declared.Operand.{Operand}
 use Rattle.record.specs.declared.Operand.the-variants.{Nothing, Imm4, Imm8}
 use Rattle.record.specs.Numbers.{widthNo}
-use Rattle.record.specs.Same.{is, baseOf, Field, nowhere, wide, short, early, fieldOf, Key}
+use Rattle.record.specs.declared.Key.{Key}
+use Rattle.record.specs.Same.{is, baseOf, Field, nowhere, wide, short, early, fieldOf}
 use Rattle.rows.specs.Row.{disp, imm, imm20, Read, num, cond, stop, Condition, isnt, Face, Row, Table}
 use Rattle.rows.specs.Row as row
 use Rattle.rows.specs.Codes.{condOf}

@@ -5,7 +5,7 @@ use mathlib.Core.Bool.{Bool, true}
 use mathlib.Core.List.{List, [], _∷_}
 use lib.Dec.{ltb}
 use Rattle.tests.specs.Choice.{pick, both}
-use Rattle.record.specs.Same.{Key}
+use Rattle.record.specs.declared.Key.{Key}
 use Rattle.rows.specs.Row.{Row, Table}
 use Rattle.rows.specs.Fate.{reach}
 use Rattle.shortest.specs.Says.{First, Found, bytes, none}

@@ -10,7 +10,8 @@ use Rattle.record.specs.declared.Answer.{Answer}
 use Rattle.record.specs.declared.Opcode.{Opcode}
 use Rattle.record.specs.declared.Operand.the-variants.{Nothing, «Disp8_SP»}
 use Rattle.record.specs.Numbers.{opcodeNo, sizeNo, widthNo, operandNo}
-use Rattle.record.specs.Same.{is, Field, nowhere, wide, short, early, fieldOf, Key, key}
+use Rattle.record.specs.declared.Key.{Key}
+use Rattle.record.specs.Same.{is, Field, nowhere, wide, short, early, fieldOf, key}
 use Rattle.rows.specs.Row.{disp, imm, imm20, Read, num, cond, stop, Condition, isnt, Face, Row, Table}
 use Rattle.rows.specs.Row as row
 use Rattle.rows.specs.Codes.{condOf}

@@ -1,0 +1,25 @@
+-- `choose::shapes::decimal` meets its contract.
+-- Assumes nothing.
+use Prim.Native.Nat.{_+_}
+use mathlib.Core.Path.{_≡_, sym, _∙_}
+use mathlib.Core.Bool.{Bool}
+use borrow.Author.Needs.{needs}
+use Rattle.tests.specs.Choice.{pick}
+use Rattle.record.specs.Same.{fieldOf}
+use Rattle.shortest.specs.Choose as choice
+use Rattle.choose.specs.Coded.{coded, isWide}
+use Rattle.choose.proofs.OrImm.{or-imm}
+use Rattle.choose.proofs.shapes.decimal.Statement.{statement}
+use Rattle.choose.proofs.shapes.decimal.Tie as tie
+
+by : (x : tie.Start) {b : Bool} → isWide (fieldOf (x .args .q .base0)) ≡ b → coded (pick b (choice.only 0x7C (0xEC + x .args .i) (x .args .q)) (choice.only 0x7C (0xE4 + x .args .i) (x .args .q))) ≡ coded (choice.decimal (x .args .i) (x .args .q))
+by x = or-imm (choice.only 0x7C (0xEC + x .args .i) (x .args .q)) (choice.only 0x7C (0xE4 + x .args .i) (x .args .q)) (x .args .q)
+
+returns : tie.Need-returns
+returns c = c .only .ensures ∙ by (c .before .before .before) (sym (c .before .before .is-wide .ensures) ∙ c .before .if1 .taken)
+
+returns-2 : tie.Need-returns-2
+returns-2 c = c .only2 .ensures ∙ by (c .before .before .before) (sym (c .before .before .is-wide .ensures) ∙ c .before .if1 .left)
+
+pub decimal-spec : {M : Type 1} → statement M
+decimal-spec = tie.close (tie.spec (λ c κs. search needs) (λ c. search needs) (λ c κs. search needs) (λ c. search needs) (λ c κs. search needs) returns returns-2)

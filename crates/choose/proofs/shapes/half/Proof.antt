@@ -1,0 +1,22 @@
+-- `choose::shapes::half` meets its contract.
+-- Assumes nothing.
+use Prim.Native.Nat.{_+_, _*_}
+use mathlib.Core.Path.{sym, ap, _∙_}
+use borrow.Author.Needs.{needs}
+use Rattle.shortest.specs.Direct.{code}
+use Rattle.choose.specs.Coded.{coded}
+use Rattle.choose.proofs.shapes.half.Statement.{statement}
+use Rattle.choose.proofs.shapes.half.Tie as tie
+
+returns : tie.Need-returns
+returns c =
+    let args = c .before .before .before .args in
+    rw (sym (c .before .before .same .ensures) ∙ c .before .if1 .taken) (ap (λ n. coded (code 0x7C (16 * args .h + n))) (c .code-g .ensures .0))
+
+returns-2 : tie.Need-returns-2
+returns-2 c =
+    let args = c .before .before .before .args in
+    rw (sym (c .before .before .same .ensures) ∙ c .before .if1 .left) (ap (λ n. coded (code 0x7C (16 * (8 + args .h) + n))) (c .code-g2 .ensures .0))
+
+pub half-spec : {M : Type 1} → statement M
+half-spec = tie.close (tie.spec (λ c κs. search needs) (λ c. search needs) (λ c κs. search needs) (λ c. search needs) returns (λ c. search needs) (λ c. search needs) (λ c κs. search needs) (λ c. search needs) returns-2)

@@ -1,0 +1,15 @@
+-- `choose::single::control` meets its contract.
+-- Assumes nothing.
+use Prim.Native.Nat.{_+_, _*_}
+use mathlib.Core.Path.{ap, _∙_}
+use borrow.Author.Needs.{needs}
+use Rattle.shortest.specs.Direct.{code}
+use Rattle.choose.specs.Coded.{coded}
+use Rattle.choose.proofs.single.control.Statement.{statement}
+use Rattle.choose.proofs.single.control.Tie as tie
+
+returns : tie.Need-returns
+returns c = c .fixed .ensures ∙ ap (λ n. coded (code 0xEB (16 * n + c .before .before .args .n))) (c .before .code-k .ensures .0)
+
+pub control-spec : {M : Type 1} → statement M
+control-spec = tie.close (tie.spec (λ c κs. search needs) (λ c. search needs) (λ c. search needs) (λ c κs. search needs) returns)

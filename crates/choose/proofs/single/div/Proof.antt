@@ -1,0 +1,26 @@
+-- `choose::single::div` meets its contract.
+-- Assumes nothing.
+use mathlib.Core.Path.{_≡_, sym, _∙_}
+use borrow.Author.Needs.{needs}
+use mathlib.Core.Bool.{Bool}
+use Rattle.tests.specs.Choice.{pick}
+use Rattle.record.specs.Same.{fieldOf}
+use Rattle.record.specs.declared.Opcode.the-variants.{DIV}
+use Rattle.shortest.specs.Choose as choice
+use Rattle.choose.specs.Coded.{coded, isWide}
+use Rattle.choose.proofs.OrImm.{or-imm}
+use Rattle.choose.proofs.single.div.Statement.{statement}
+use Rattle.choose.proofs.single.div.Tie as tie
+
+by : (x : tie.Start) {b : Bool} → isWide (fieldOf (x .args .q .base0)) ≡ b → coded (pick b (choice.only 0x7C 0xE1 (x .args .q)) (choice.unary 0x76 0xD (x .args .q))) ≡ coded (choice.chooseBy DIV (x .args .q))
+unfolding choice.chooseBy
+by x = or-imm (choice.only 0x7C 0xE1 (x .args .q)) (choice.unary 0x76 0xD (x .args .q)) (x .args .q)
+
+returns : tie.Need-returns
+returns c = c .only .ensures ∙ by (c .before .before .before) (sym (c .before .before .is-wide .ensures) ∙ c .before .if1 .taken)
+
+returns-2 : tie.Need-returns-2
+returns-2 c = c .unary .ensures ∙ by (c .before .before .before) (sym (c .before .before .is-wide .ensures) ∙ c .before .if1 .left)
+
+pub div-spec : {M : Type 1} → statement M
+div-spec = tie.close (tie.spec (λ c κs. search needs) (λ c κs. search needs) (λ c κs. search needs) returns returns-2)

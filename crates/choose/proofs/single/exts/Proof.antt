@@ -1,0 +1,21 @@
+-- `choose::single::exts` meets its contract.
+-- Assumes nothing.
+use Prim.Native.Nat.{_+_}
+use mathlib.Core.Path.{sym, ap, _∙_}
+use borrow.Author.Needs.{needs}
+use Rattle.shortest.specs.Direct.{code}
+use Rattle.shortest.specs.Choose.{chooseBy}
+use Rattle.choose.specs.Coded.{coded}
+use Rattle.choose.proofs.single.exts.Statement.{statement}
+use Rattle.choose.proofs.single.exts.Tie as tie
+
+returns : tie.Need-returns
+unfolding chooseBy
+returns c = rw (sym (c .before .before .same .ensures) ∙ c .before .if1 .taken) (c .fixed .ensures)
+
+returns-2 : tie.Need-returns-2
+unfolding chooseBy
+returns-2 c = rw (sym (c .before .before .before .same .ensures) ∙ c .before .before .if1 .left) (c .fixed2 .ensures ∙ ap (λ n. coded (code 0x7C (0x60 + n))) (c .before .code-g .ensures .0))
+
+pub exts-spec : {M : Type 1} → statement M
+exts-spec = tie.close (tie.spec (λ c κs. search needs) (λ c κs. search needs) returns (λ c κs. search needs) (λ c. search needs) (λ c κs. search needs) returns-2)

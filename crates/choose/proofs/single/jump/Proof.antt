@@ -1,0 +1,15 @@
+-- `choose::single::jump` meets its contract.
+-- Assumes nothing.
+use Prim.Native.Nat.{_+_}
+use mathlib.Core.Path.{ap, _∙_}
+use borrow.Author.Needs.{needs}
+use Rattle.shortest.specs.Direct.{code}
+use Rattle.choose.specs.Coded.{coded}
+use Rattle.choose.proofs.single.jump.Statement.{statement}
+use Rattle.choose.proofs.single.jump.Tie as tie
+
+returns : tie.Need-returns
+returns c = c .fixed .ensures ∙ ap (λ n. coded (code 0x7D (c .before .before .args .b + n))) (c .before .code-j .ensures .0)
+
+pub jump-spec : {M : Type 1} → statement M
+jump-spec = tie.close (tie.spec (λ c κs. search needs) (λ c. search needs) (λ c κs. search needs) returns)

@@ -1,0 +1,17 @@
+-- `choose::single::ldc` meets its contract.
+-- Assumes nothing.
+use Prim.Native.Nat.{_*_}
+use mathlib.Core.Path.{ap, _∙_}
+use borrow.Author.Needs.{needs}
+use Rattle.shortest.specs.Direct.{code}
+use Rattle.shortest.specs.Choose.{chooseBy}
+use Rattle.choose.specs.Coded.{coded}
+use Rattle.choose.proofs.single.ldc.Statement.{statement}
+use Rattle.choose.proofs.single.ldc.Tie as tie
+
+returns : tie.Need-returns
+unfolding chooseBy
+returns c = c .fixed .ensures ∙ ap (λ n. coded (code 0xEB (16 * n))) (c .before .code-k .ensures .0)
+
+pub ldc-spec : {M : Type 1} → statement M
+ldc-spec = tie.close (tie.spec (λ c κs. search needs) (λ c. search needs) (λ c κs. search needs) returns)

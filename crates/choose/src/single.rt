@@ -1,0 +1,152 @@
+// Codes that one opcode has, or two.
+ghost use mathlib.Core.Path.{_≡_};
+ghost use Prim.Native.Nat.{_+_, _*_, _≤_};
+ghost use Rattle.record.specs.declared.Opcode.the-variants.{ADD, DIV, EXTS, INT, LDC, LDE, MOV, MOVA, PUSH, PUSHA, STC, STE};
+ghost use Rattle.shortest.specs.Direct.{code};
+ghost use Rattle.shortest.specs.Choose.{codeJ, codeK, chooseBy};
+ghost use Rattle.choose.specs.Coded.{coded};
+use crate::Code;
+use crate::codes;
+use crate::names;
+use crate::shapes;
+use record::Operand;
+use record::Width;
+use shortest::Asked;
+
+pub fn fixed(a: u8, b: u64) -> Code
+    ensures { λ r. ⌜ r ≡ coded (code a b) ⌝ }
+{
+    Code {
+        first: a,
+        second: b,
+    }
+}
+
+pub fn add(q: Asked) -> Code
+    ensures { λ r. ⌜ r ≡ coded (chooseBy ADD q) ⌝ }
+{
+    let base1 = q.base1;
+    if names::same(base1, Operand::SP) {
+        shapes::only(0x7C, 0xEB, q)
+    } else {
+        shapes::binary(0x76, 4, q)
+    }
+}
+
+pub fn div(q: Asked) -> Code
+    ensures { λ r. ⌜ r ≡ coded (chooseBy DIV q) ⌝ }
+{
+    let base0 = q.base0;
+    if names::is_wide(base0) {
+        shapes::only(0x7C, 0xE1, q)
+    } else {
+        shapes::unary(0x76, 0xD, q)
+    }
+}
+
+pub fn push(q: Asked) -> Code
+    ensures { λ r. ⌜ r ≡ coded (chooseBy PUSH q) ⌝ }
+{
+    let base0 = q.base0;
+    if names::is_wide(base0) {
+        shapes::only(0x7C, 0xE2, q)
+    } else {
+        shapes::unary(0x74, 4, q)
+    }
+}
+
+pub fn exts(q: Asked) -> Code
+    ensures { λ r. ⌜ r ≡ coded (chooseBy EXTS q) ⌝ }
+{
+    let base0 = q.base0;
+    let near0 = q.near0;
+    if names::same(base0, Operand::R0) {
+        return fixed(0x7C, 0xF3);
+    }
+    fixed(0x7C, 0x60 + codes::code_g(Width::B, near0))
+}
+
+pub fn int(q: Asked) -> Code
+    ensures { λ r. ⌜ r ≡ coded (chooseBy INT q) ⌝ }
+{
+    fixed(0xEB, 0xC0 + (q.number as u64))
+}
+
+// JMPI and JSRI, from 0 or 10 on.
+pub fn jump(b: u64, q: Asked) -> Code
+    requires { ⌜ b ≤ 0x10 ⌝ }
+    ensures { λ r. ⌜ r ≡ coded (code 0x7D (b + codeJ (q .near0))) ⌝ }
+{
+    let near0 = q.near0;
+    fixed(0x7D, b + codes::code_j(near0))
+}
+
+pub fn ldc(q: Asked) -> Code
+    ensures { λ r. ⌜ r ≡ coded (chooseBy LDC q) ⌝ }
+{
+    let base1 = q.base1;
+    fixed(0xEB, 16 * codes::code_k(base1))
+}
+
+// PUSHC and POPC, by the low nibble.
+pub fn control(n: u64, q: Asked) -> Code
+    requires { ⌜ n ≤ 15 ⌝ }
+    ensures { λ r. ⌜ r ≡ coded (code 0xEB (16 * codeK (q .base0) + n)) ⌝ }
+{
+    let base0 = q.base0;
+    fixed(0xEB, 16 * codes::code_k(base0) + n)
+}
+
+pub fn stc(q: Asked) -> Code
+    ensures { λ r. ⌜ r ≡ coded (chooseBy STC q) ⌝ }
+{
+    let base1 = q.base1;
+    let near0 = q.near0;
+    fixed(
+        0x7B,
+        16 * (8 + codes::code_k(base1)) + codes::code_g(Width::W, near0),
+    )
+}
+
+pub fn lde(q: Asked) -> Code
+    ensures { λ r. ⌜ r ≡ coded (chooseBy LDE q) ⌝ }
+{
+    let base0 = q.base0;
+    shapes::binary(0x74, 8 + shapes::far(base0), q)
+}
+
+pub fn ste(q: Asked) -> Code
+    ensures { λ r. ⌜ r ≡ coded (chooseBy STE q) ⌝ }
+{
+    let base1 = q.base1;
+    shapes::unary(0x74, shapes::far(base1), q)
+}
+
+pub fn mov(q: Asked) -> Code
+    ensures { λ r. ⌜ r ≡ coded (chooseBy MOV q) ⌝ }
+{
+    let base0 = q.base0;
+    if names::same(base0, Operand::Disp8_SP) {
+        shapes::binary(0x74, 0xB, q)
+    } else {
+        shapes::binary(0x74, 0xC, q)
+    }
+}
+
+pub fn mova(q: Asked) -> Code
+    ensures { λ r. ⌜ r ≡ coded (chooseBy MOVA q) ⌝ }
+{
+    let base1 = q.base1;
+    let far0 = q.far0;
+    fixed(
+        0xEB,
+        16 * codes::code_g(Width::W, base1) + codes::code_g(Width::W, far0),
+    )
+}
+
+pub fn pusha(q: Asked) -> Code
+    ensures { λ r. ⌜ r ≡ coded (chooseBy PUSHA q) ⌝ }
+{
+    let far0 = q.far0;
+    fixed(0x7D, 0x90 + codes::code_g(Width::W, far0))
+}
