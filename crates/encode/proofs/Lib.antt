@@ -5,3 +5,11 @@ pub mod Asks
 pub mod Bare
 pub mod Sayable
 pub mod Told
+pub mod Fields
+pub mod Value
+pub mod Laid
+pub mod Found
+pub mod ByteOf
+pub mod Fit
+pub mod Planned
+pub mod Taken

@@ -34,6 +34,10 @@ all-conditional : T (everyCode conditional)
 unfolding everyCode conditional rowsOf conds
 all-conditional = tt
 
+pub conditioned : (a b : ℕ) → known a ≡ true → b < 256 → live (document01 .rowAt a b) ≡ true → conds (document01 .rowAt a b .reads) ≡ conditions a b
+unfolding conditional
+conditioned a b e l v = eqb-true _ _ (so _ (picked _ _ (every-code conditional all-conditional b l a e) v))
+
 -- the opcode counts only where no condition is read, the row's own number only where no number is
 named-by : (c : ℕ) (o p q : Opcode) → (c ≡ 0 → o ≡ p) → named c p q ≡ named c o q
 named-by zero o p q h = ap (λ x. eqb (opcodeNo x) (opcodeNo q)) (sym (h refl))
@@ -83,13 +87,12 @@ module _ (a b : ℕ) (e : known a ≡ true) (h : a < 256) (l : b < 256) (k : Key
       ∙ (λ j. sayable (record { opcode = x .opcode; size = sym (s .size) j; width = sym (s .width) j; op0 = sym (s .op0) j; op1 = sym (s .op1) j; marked = sym (s .marked) j }) (x .«imm_wide») c k)
 
   pub told : can (document01 .rowAt a b) k ≡ tells a b (decodeRows (bare a b)) k
-  unfolding w x tells conditional
+  unfolding w x tells
   told = by (unmarked (decodeRows (bare a b))) refl
     where
       by : (g : Bool) → unmarked (decodeRows (bare a b)) ≡ g → can w k ≡ tells a b (decodeRows (bare a b)) k
       by false u = not-live w k (lives a b e h l ∙ u) ∙ ap (λ g. both g (sayable (faceOf x) (x .«imm_wide») (conditions a b) k)) (sym u)
       by true u =
           let v = lives a b e h l ∙ u in
-          let c = eqb-true _ _ (so _ (picked _ _ (every-code conditional all-conditional b l a e) v)) in
-          said a b e l v k ∙ by-names v (names a b e h l (eqb-true _ _ (both-true _ _ u .0))) ∙ ap (λ n. sayable (faceOf x) (x .«imm_wide») n k) c
+          said a b e l v k ∙ by-names v (names a b e h l (eqb-true _ _ (both-true _ _ u .0))) ∙ ap (λ n. sayable (faceOf x) (x .«imm_wide») n k) (conditioned a b e l v)
           ∙ ap (λ g. both g (sayable (faceOf x) (x .«imm_wide») (conditions a b) k)) (sym u)

@@ -12,15 +12,17 @@ use Rattle.shortest.specs.Search.{aim}
 use Rattle.shortest.specs.Can.{exact, named}
 use Rattle.encode.specs.Asks.{further, allFitting}
 
-unfoldable pub sayable : Face → ℕ → ℕ → Key → Bool
-sayable f own c k =
+-- the names agree, no third operand is asked for, and the rest holds
+abbrev pub agreeing : Face → ℕ → Key → Bool → Bool
+agreeing f c k rest =
     both (named c (f .opcode) (k .opcode))
     (both (eqb (sizeNo (f .size)) (sizeNo (k .size)))
     (both (eqb (widthNo (f .width)) (widthNo (k .width)))
     (both (eqb (operandNo (baseOf (f .op0))) (operandNo (k .base0)))
     (both (eqb (operandNo (baseOf (f .op1))) (operandNo (k .base1)))
-    (both (eqb (operandNo (baseOf Nothing)) (operandNo (k .base2)))
-    (both (eqb (k .number2) 0)
-    (both (exact (fieldOf (f .op0)) (further f) own (k .number0))
-    (both (exact (fieldOf (f .op1)) (further f) own (k .number1))
-    (allFitting f c (aim f k))))))))))
+    (both (eqb (operandNo (baseOf Nothing)) (operandNo (k .base2))) (both (eqb (k .number2) 0) rest))))))
+
+unfoldable pub sayable : Face → ℕ → ℕ → Key → Bool
+sayable f own c k =
+    agreeing f c k
+    (both (exact (fieldOf (f .op0)) (further f) own (k .number0)) (both (exact (fieldOf (f .op1)) (further f) own (k .number1)) (allFitting f c (aim f k))))

@@ -1,10 +1,23 @@
+// The encoder: the shortest bytes that say what a record says.
+mod key; // what counts of a record
+mod counts; // the bytes that names ask for
+mod condition; // the byte of a condition
+mod layout; // the numbers behind a code
+mod says; // whether a code can say a key
+mod joined; // two tests at once
+mod write; // a plan's bytes in a buffer
+
 ghost use mathlib.Core.Path.{_≡_};
-ghost use Prim.Native.Nat.{_+_, _≤_};
-ghost use lib.ListN.{length};
-ghost use Rattle.shortest.specs.Digits.{digits};
-ghost use Rattle.shortest.specs.Says.{bytes};
+ghost use Prim.Native.Nat.{_≤_};
+ghost use Rattle.rows.specs.Rows.{document01};
+ghost use Rattle.shortest.specs.Choose.{choose, encoded};
+ghost use Rattle.shortest.specs.Direct.{code, taken};
+ghost use Rattle.shortest.specs.Says.{none};
 ghost use Rattle.shortest.specs.Written.{written};
-ghost use Rattle.encode.specs.Plan.{planned, put};
+ghost use Rattle.encode.specs.Bare as bare;
+ghost use Rattle.encode.specs.Plan.{foundBy};
+use record::Key;
+use record::Record;
 
 // A code, and the numbers that stand behind it, each in so many bytes.
 pub struct Plan {
@@ -16,35 +29,16 @@ pub struct Plan {
     pub rest: u32,
 }
 
-// n bytes of a number, low first, from a place on.
-fn write_number(out: &mut [u8], at: usize, n: u8, v: u32)
-    requires { ⌜ (n ≤ 3) × (at + n ≤ length (now out)) ⌝ }
-    ensures { λ r. ⌜ now (out .exit) ≡ put at (digits n v) (now (out .entry)) ⌝ }
-{
-    if n == 0 {
-        return;
-    }
-    out[at] = (v % 256) as u8;
-    if n == 1 {
-        return;
-    }
-    out[at + 1] = (v / 256 % 256) as u8;
-    if n == 2 {
-        return;
-    }
-    out[at + 2] = (v / 256 / 256 % 256) as u8;
-}
-
-// A plan's bytes over the first of what is lent.
-fn write_plan(out: &mut [u8], p: Plan)
-    requires { ⌜ (p .count ≤ 3) × (p .«rest_count» ≤ 3) × (2 + p .count + p .«rest_count» ≤ length (now out)) ⌝ }
-    ensures { λ r. ⌜ now (out .exit) ≡ put 0 (planned p) (now (out .entry)) ⌝ }
-{
-    out[0] = p.first;
-    out[1] = p.second;
-    write_number(out, 2, p.count, p.number);
-    let k = 2 + (p.count as usize);
-    write_number(out, k, p.rest_count, p.rest);
+// What stands behind a code, in this order and each in so many bytes: a displacement, another, another number, a condition.
+pub struct Parts {
+    pub before: u8,
+    pub front: u32,
+    pub behind: u8,
+    pub back: u32,
+    pub further: u8,
+    pub wide: u32,
+    pub conditions: u8,
+    pub byte: u8,
 }
 
 // Refusal 0 and the length written, or 5 or 6 and 0.
@@ -53,27 +47,73 @@ pub struct Encoded {
     pub length: usize,
 }
 
-// A plan's bytes from a place of a buffer on: the rest of the buffer is lent to the writer. 6 with too little room.
-fn write_at(buf: &mut [u8], place: usize, p: Plan) -> Encoded
-    requires { ⌜ (p .count ≤ 3) × (p .«rest_count» ≤ 3) ⌝ }
-    ensures { λ r. ⌜ (r .refusal ≡ written (bytes (planned p)) (now (buf .entry)) place .no) × (r .length ≡ written (bytes (planned p)) (now (buf .entry)) place .length) × (now (buf .exit) ≡ written (bytes (planned p)) (now (buf .entry)) place .buffer) ⌝ }
+// 7E 2n reads a condition, no other code does.
+fn conditions(a: u8, b: u8) -> u8
+    ensures { λ r. ⌜ (r ≡ bare.conditions a b) × (r ≤ 1) ⌝ }
 {
-    let n = 2 + (p.count as usize) + (p.rest_count as usize);
-    if buf.len() < place {
+    if a == 0x7E {
+        if b / 16 == 2 {
+            return 1;
+        }
+    }
+    0
+}
+
+// No plan: first byte 0.
+fn no_plan() -> Plan
+    ensures { λ r. ⌜ (foundBy r ≡ none) × (r .count ≤ 3) × (r .«rest_count» ≤ 3) ⌝ }
+{
+    Plan {
+        first: 0,
+        second: 0,
+        count: 0,
+        number: 0,
+        rest_count: 0,
+        rest: 0,
+    }
+}
+
+// How a code says a key, told by decoding it with zeros behind it.
+fn say(a: u8, b: u8, k: Key) -> Plan
+    ensures { λ r. ⌜ (foundBy r ≡ taken document01 (code a b) k) × (r .count ≤ 3) × (r .«rest_count» ≤ 3) ⌝ }
+{
+    let bytes = [a, b, 0, 0, 0, 0, 0, 0];
+    let x = decode::decode(&bytes, 0);
+    if x.refusal != 0 {
+        return no_plan();
+    }
+    let inst = x.inst;
+    if inst.marked {
+        return no_plan();
+    }
+    let p = layout::parts_of(inst, conditions(a, b), k);
+    if says::sayable(inst, p, k) {
+        return layout::plan_of(a, b, p);
+    }
+    no_plan()
+}
+
+fn find(k: Key) -> Plan
+    ensures { λ r. ⌜ (foundBy r ≡ taken document01 (choose k) k) × (r .count ≤ 3) × (r .«rest_count» ≤ 3) ⌝ }
+{
+    let c = choose::choose(k);
+    if c.second < 256 {
+        return say(c.first, c.second as u8, k);
+    }
+    no_plan()
+}
+
+// The shortest byte string, then the first in byte order, of all that decode by unmarked rows to the same instruction, from a place
+// of a buffer on. 5 if there is none, and then 6 with too little room; refused, it touches nothing.
+pub fn encode(r: Record, buf: &mut [u8], place: usize) -> Encoded
+    ensures { λ e. ⌜ (e .refusal ≡ written (encoded r) (now (buf .entry)) place .no) × (e .length ≡ written (encoded r) (now (buf .entry)) place .length) × (now (buf .exit) ≡ written (encoded r) (now (buf .entry)) place .buffer) ⌝ }
+{
+    let p = find(key::key_of(r));
+    if p.first == 0 {
         return Encoded {
-            refusal: 6,
+            refusal: 5,
             length: 0,
         };
     }
-    if buf.len() - place < n {
-        return Encoded {
-            refusal: 6,
-            length: 0,
-        };
-    }
-    write_plan(&mut buf[place..], p);
-    Encoded {
-        refusal: 0,
-        length: n,
-    }
+    write::write_at(buf, place, p)
 }

@@ -1,11 +1,11 @@
--- `encode::write_plan` meets its contract.
+-- `encode::write::write_plan` meets its contract.
 -- Assumes nothing.
 use native.Mathlib.Omega.{arith}
 use lib.ListN.{length-set}
 use borrow.Author.Needs.{needs}
 use Rattle.encode.proofs.Put.{room, laid, laid-length}
-use Rattle.encode.proofs.write_plan.Statement.{statement}
-use Rattle.encode.proofs.write_plan.Tie as tie
+use Rattle.encode.proofs.write.write_plan.Statement.{statement}
+use Rattle.encode.proofs.write.write_plan.Tie as tie
 
 slice-write-out : tie.Need-slice-write-out
 slice-write-out c = omega (arith, c .before .pre .2)

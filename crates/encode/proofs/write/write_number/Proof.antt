@@ -1,12 +1,12 @@
--- `encode::write_number` meets its contract.
+-- `encode::write::write_number` meets its contract.
 -- Assumes nothing.
 use mathlib.Core.Path.{_≡_}
 use native.Mathlib.Omega.{arith}
 use lib.ListN.{length-set}
 use borrow.Author.Needs.{needs}
 use Rattle.encode.proofs.Put.{put-none, put-one, put-two, put-three}
-use Rattle.encode.proofs.write_number.Statement.{statement}
-use Rattle.encode.proofs.write_number.Tie as tie
+use Rattle.encode.proofs.write.write_number.Statement.{statement}
+use Rattle.encode.proofs.write.write_number.Tie as tie
 
 returns : tie.Need-returns
 returns c = rw (c .if1 .taken) (put-none (c .before .args .out .now) (c .before .args .at))

@@ -1,4 +1,4 @@
--- `encode::write_at` meets its contract.
+-- `encode::write::write_at` meets its contract.
 -- Assumes nothing.
 use Prim.Native.Nat.{_+_, _≤_}
 use mathlib.Core.Path.{sym, ap, _∙_, subst}
@@ -7,8 +7,8 @@ use lib.ListN.{length, length-drop}
 use borrow.Author.Needs.{needs}
 use Rattle.encode.specs.Plan.{planned}
 use Rattle.encode.proofs.Room.{none, some, rest, planned-length}
-use Rattle.encode.proofs.write_at.Statement.{statement}
-use Rattle.encode.proofs.write_at.Tie as tie
+use Rattle.encode.proofs.write.write_at.Statement.{statement}
+use Rattle.encode.proofs.write.write_at.Tie as tie
 
 add-n : tie.Need-add-n
 add-n c = omega (arith, c .before .before .pre .0)
