@@ -1,3 +1,4 @@
 pub mod Whole
 pub mod Placed
 pub mod OrImm
+pub mod Outcomes

@@ -57,7 +57,7 @@ fn whole_number(k: Key) -> u32
     }
 }
 
-pub fn asked(k: Key) -> Asked
+pub(crate) fn asked(k: Key) -> Asked
     ensures { λ r. ⌜ r ≡ choice.asked k ⌝ }
 {
     let size = k.size;

@@ -53,7 +53,7 @@ fn word_code(o: Operand) -> u64
     }
 }
 
-pub fn code_g(w: Width, o: Operand) -> u64
+pub(crate) fn code_g(w: Width, o: Operand) -> u64
     ensures { λ r. ⌜ (r ≡ codeG w o) × (r ≤ 16) ⌝ }
 {
     match w {
@@ -64,7 +64,7 @@ pub fn code_g(w: Width, o: Operand) -> u64
 }
 
 // Names of bits stand together in the enum, in the order of their codes.
-pub fn code_t(o: Operand) -> u64
+pub(crate) fn code_t(o: Operand) -> u64
     ensures { λ r. ⌜ (r ≡ codeT o) × (r ≤ 16) ⌝ }
 {
     let n = numbers::operand_number(o) as u64;
@@ -77,7 +77,7 @@ pub fn code_t(o: Operand) -> u64
     n - 17
 }
 
-pub fn code_j(o: Operand) -> u64
+pub(crate) fn code_j(o: Operand) -> u64
     ensures { λ r. ⌜ (r ≡ codeJ o) × (r ≤ 16) ⌝ }
 {
     match o {
@@ -93,7 +93,7 @@ pub fn code_j(o: Operand) -> u64
 }
 
 // As those of bits, behind the code that none has.
-pub fn code_k(o: Operand) -> u64
+pub(crate) fn code_k(o: Operand) -> u64
     ensures { λ r. ⌜ (r ≡ codeK o) × (r ≤ 8) ⌝ }
 {
     let n = numbers::operand_number(o) as u64;

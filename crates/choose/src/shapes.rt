@@ -23,7 +23,7 @@ fn word(w: Width) -> u8
 }
 
 // No operand in the second byte.
-pub fn only(f: u8, b: u64, q: Asked) -> Code
+pub(crate) fn only(f: u8, b: u64, q: Asked) -> Code
     requires { ⌜ f ≤ 0x7C ⌝ }
     ensures { λ r. ⌜ r ≡ coded (choice.only f b q) ⌝ }
 {
@@ -35,7 +35,7 @@ pub fn only(f: u8, b: u64, q: Asked) -> Code
 }
 
 // Operand 0 is G(n).
-pub fn unary(f: u8, h: u64, q: Asked) -> Code
+pub(crate) fn unary(f: u8, h: u64, q: Asked) -> Code
     requires { ⌜ (f ≤ 0x7C) × (h ≤ 15) ⌝ }
     ensures { λ r. ⌜ r ≡ coded (choice.unary f h q) ⌝ }
 {
@@ -48,7 +48,7 @@ pub fn unary(f: u8, h: u64, q: Asked) -> Code
 }
 
 // Operand 1 is G(n).
-pub fn binary(f: u8, h: u64, q: Asked) -> Code
+pub(crate) fn binary(f: u8, h: u64, q: Asked) -> Code
     requires { ⌜ (f ≤ 0x7C) × (h ≤ 15) ⌝ }
     ensures { λ r. ⌜ r ≡ coded (choice.binary f h q) ⌝ }
 {
@@ -61,7 +61,7 @@ pub fn binary(f: u8, h: u64, q: Asked) -> Code
 }
 
 // Operands 0 and 1 are G(h) and G(n).
-pub fn twice(f: u8, q: Asked) -> Code
+pub(crate) fn twice(f: u8, q: Asked) -> Code
     requires { ⌜ f ≤ 0x7C ⌝ }
     ensures { λ r. ⌜ r ≡ coded (choice.twice f q) ⌝ }
 {
@@ -75,7 +75,7 @@ pub fn twice(f: u8, q: Asked) -> Code
 }
 
 // 7E: operand 0 is T(n).
-pub fn bit(h: u64, q: Asked) -> Code
+pub(crate) fn bit(h: u64, q: Asked) -> Code
     requires { ⌜ h ≤ 15 ⌝ }
     ensures { λ r. ⌜ r ≡ coded (choice.bit h q) ⌝ }
 {
@@ -87,7 +87,7 @@ pub fn bit(h: u64, q: Asked) -> Code
 }
 
 // The condition of a flag, 7D D, or of a bit.
-pub fn condition(n: u64, q: Asked) -> Code
+pub(crate) fn condition(n: u64, q: Asked) -> Code
     requires { ⌜ n ≤ 15 ⌝ }
     ensures { λ r. ⌜ r ≡ coded (choice.condition n q) ⌝ }
 {
@@ -103,7 +103,7 @@ pub fn condition(n: u64, q: Asked) -> Code
 }
 
 // DADD and the like: an immediate, or registers.
-pub fn decimal(i: u64, q: Asked) -> Code
+pub(crate) fn decimal(i: u64, q: Asked) -> Code
     requires { ⌜ i ≤ 3 ⌝ }
     ensures { λ r. ⌜ r ≡ coded (choice.decimal i q) ⌝ }
 {
@@ -116,7 +116,7 @@ pub fn decimal(i: u64, q: Asked) -> Code
 }
 
 // MOVLL and the like: to R0L, which comes first, or from it.
-pub fn half(h: u64, q: Asked) -> Code
+pub(crate) fn half(h: u64, q: Asked) -> Code
     requires { ⌜ h ≤ 3 ⌝ }
     ensures { λ r. ⌜ r ≡ coded (choice.half h q) ⌝ }
 {
@@ -136,7 +136,7 @@ pub fn half(h: u64, q: Asked) -> Code
 }
 
 // STE and LDE: the operand beside G(n).
-pub fn far(o: Operand) -> u64
+pub(crate) fn far(o: Operand) -> u64
     ensures { λ r. ⌜ (r ≡ choice.far o) × (r ≤ 2) ⌝ }
 {
     match o {
@@ -174,7 +174,7 @@ fn long(s: u64, q: Asked) -> Code
 }
 
 // SHL and SHA: at size L a pair, by R1H or by Imm4.
-pub fn shift(h: u64, s: u64, q: Asked) -> Code
+pub(crate) fn shift(h: u64, s: u64, q: Asked) -> Code
     requires { ⌜ (h ≤ 15) × (s ≤ 2) ⌝ }
     ensures { λ r. ⌜ r ≡ coded (choice.shift h s q) ⌝ }
 {

@@ -13,7 +13,7 @@ use record::Operand;
 use record::Width;
 use shortest::Asked;
 
-pub fn fixed(a: u8, b: u64) -> Code
+pub(crate) fn fixed(a: u8, b: u64) -> Code
     ensures { λ r. ⌜ r ≡ coded (code a b) ⌝ }
 {
     Code {
@@ -22,7 +22,7 @@ pub fn fixed(a: u8, b: u64) -> Code
     }
 }
 
-pub fn add(q: Asked) -> Code
+pub(crate) fn add(q: Asked) -> Code
     ensures { λ r. ⌜ r ≡ coded (chooseBy ADD q) ⌝ }
 {
     let base1 = q.base1;
@@ -33,7 +33,7 @@ pub fn add(q: Asked) -> Code
     }
 }
 
-pub fn div(q: Asked) -> Code
+pub(crate) fn div(q: Asked) -> Code
     ensures { λ r. ⌜ r ≡ coded (chooseBy DIV q) ⌝ }
 {
     let base0 = q.base0;
@@ -44,7 +44,7 @@ pub fn div(q: Asked) -> Code
     }
 }
 
-pub fn push(q: Asked) -> Code
+pub(crate) fn push(q: Asked) -> Code
     ensures { λ r. ⌜ r ≡ coded (chooseBy PUSH q) ⌝ }
 {
     let base0 = q.base0;
@@ -55,7 +55,7 @@ pub fn push(q: Asked) -> Code
     }
 }
 
-pub fn exts(q: Asked) -> Code
+pub(crate) fn exts(q: Asked) -> Code
     ensures { λ r. ⌜ r ≡ coded (chooseBy EXTS q) ⌝ }
 {
     let base0 = q.base0;
@@ -66,14 +66,14 @@ pub fn exts(q: Asked) -> Code
     fixed(0x7C, 0x60 + codes::code_g(Width::B, near0))
 }
 
-pub fn int(q: Asked) -> Code
+pub(crate) fn int(q: Asked) -> Code
     ensures { λ r. ⌜ r ≡ coded (chooseBy INT q) ⌝ }
 {
     fixed(0xEB, 0xC0 + (q.number as u64))
 }
 
 // JMPI and JSRI, from 0 or 10 on.
-pub fn jump(b: u64, q: Asked) -> Code
+pub(crate) fn jump(b: u64, q: Asked) -> Code
     requires { ⌜ b ≤ 0x10 ⌝ }
     ensures { λ r. ⌜ r ≡ coded (code 0x7D (b + codeJ (q .near0))) ⌝ }
 {
@@ -81,7 +81,7 @@ pub fn jump(b: u64, q: Asked) -> Code
     fixed(0x7D, b + codes::code_j(near0))
 }
 
-pub fn ldc(q: Asked) -> Code
+pub(crate) fn ldc(q: Asked) -> Code
     ensures { λ r. ⌜ r ≡ coded (chooseBy LDC q) ⌝ }
 {
     let base1 = q.base1;
@@ -89,7 +89,7 @@ pub fn ldc(q: Asked) -> Code
 }
 
 // PUSHC and POPC, by the low nibble.
-pub fn control(n: u64, q: Asked) -> Code
+pub(crate) fn control(n: u64, q: Asked) -> Code
     requires { ⌜ n ≤ 15 ⌝ }
     ensures { λ r. ⌜ r ≡ coded (code 0xEB (16 * codeK (q .base0) + n)) ⌝ }
 {
@@ -97,7 +97,7 @@ pub fn control(n: u64, q: Asked) -> Code
     fixed(0xEB, 16 * codes::code_k(base0) + n)
 }
 
-pub fn stc(q: Asked) -> Code
+pub(crate) fn stc(q: Asked) -> Code
     ensures { λ r. ⌜ r ≡ coded (chooseBy STC q) ⌝ }
 {
     let base1 = q.base1;
@@ -108,21 +108,21 @@ pub fn stc(q: Asked) -> Code
     )
 }
 
-pub fn lde(q: Asked) -> Code
+pub(crate) fn lde(q: Asked) -> Code
     ensures { λ r. ⌜ r ≡ coded (chooseBy LDE q) ⌝ }
 {
     let base0 = q.base0;
     shapes::binary(0x74, 8 + shapes::far(base0), q)
 }
 
-pub fn ste(q: Asked) -> Code
+pub(crate) fn ste(q: Asked) -> Code
     ensures { λ r. ⌜ r ≡ coded (chooseBy STE q) ⌝ }
 {
     let base1 = q.base1;
     shapes::unary(0x74, shapes::far(base1), q)
 }
 
-pub fn mov(q: Asked) -> Code
+pub(crate) fn mov(q: Asked) -> Code
     ensures { λ r. ⌜ r ≡ coded (chooseBy MOV q) ⌝ }
 {
     let base0 = q.base0;
@@ -133,7 +133,7 @@ pub fn mov(q: Asked) -> Code
     }
 }
 
-pub fn mova(q: Asked) -> Code
+pub(crate) fn mova(q: Asked) -> Code
     ensures { λ r. ⌜ r ≡ coded (chooseBy MOVA q) ⌝ }
 {
     let base1 = q.base1;
@@ -144,7 +144,7 @@ pub fn mova(q: Asked) -> Code
     )
 }
 
-pub fn pusha(q: Asked) -> Code
+pub(crate) fn pusha(q: Asked) -> Code
     ensures { λ r. ⌜ r ≡ coded (chooseBy PUSHA q) ⌝ }
 {
     let far0 = q.far0;

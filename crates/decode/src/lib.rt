@@ -1,5 +1,4 @@
 ghost use mathlib.Core.Path.{_≡_};
-ghost use mathlib.Core.List.{_∷_};
 ghost use lib.ListN.{drop};
 ghost use Rattle.tests.specs.Choice.{pick};
 ghost use Rattle.rows.specs.Rows.{known, document01};

@@ -1,7 +1,7 @@
 -- The numbers of a record that is aimed at are the parts of the key, wherever they have bytes.
 -- Assumes nothing.
 use Prim.Native.Nat.{ℕ, zero, suc}
-use mathlib.Core.Path.{_≡_, refl, sym, ap, ap₂, subst, _∙_}
+use mathlib.Core.Path.{_≡_, refl, sym, ap, ap₂, subst}
 use mathlib.Core.Bool.{Bool, true, false, false≢true}
 use mathlib.Core.List.{_++_}
 use mathlib.Core.Logic.{_⊎_, inl, inr}

@@ -9,7 +9,7 @@ pub mod Fields
 pub mod Value
 pub mod Laid
 pub mod Found
-pub mod ByteOf
 pub mod Fit
 pub mod Planned
 pub mod Taken
+pub mod Outcomes

@@ -1,12 +1,11 @@
 -- Two numbers are enough for the parts of a live row.
 -- Assumes nothing.
-use Prim.Native.Nat.{ℕ}
 use mathlib.Core.Path.{_≡_, refl, sym, ap, _∙_}
 use mathlib.Core.Logic.{_≢_}
-use mathlib.Core.Bool.{Bool, true}
+use mathlib.Core.Bool.{true}
 use mathlib.Core.List.{_++_, append-nil}
 use lib.Dec.{eqb}
-use borrow.Author.Tests.{eqb-true, eq-eqb, ne-eqb}
+use borrow.Author.Tests.{eqb-true, ne-eqb}
 use Rattle.tests.specs.Choice.{both, either}
 use Rattle.shortest.specs.Digits.{digits}
 use Rattle.shortest.proofs.Bools.{both-true}

@@ -4,7 +4,7 @@ ghost use Rattle.rows.specs.Codes.{condOf};
 ghost use Rattle.shortest.specs.Search.{means, condByte};
 use record::Opcode;
 
-pub fn byte_of(o: Opcode) -> u8
+pub(crate) fn byte_of(o: Opcode) -> u8
     ensures { λ r. ⌜ r ≡ condByte o ⌝ }
 {
     match o {
@@ -25,7 +25,7 @@ pub fn byte_of(o: Opcode) -> u8
     }
 }
 
-pub fn has_byte(o: Opcode) -> bool
+pub(crate) fn has_byte(o: Opcode) -> bool
     ensures { λ r. ⌜ r ≡ means (condOf (condByte o)) o ⌝ }
 {
     match o {

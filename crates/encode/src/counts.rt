@@ -7,7 +7,7 @@ ghost use Rattle.encode.specs.Asks as asks;
 use record::Operand;
 
 // Of displacement.
-pub fn near(o: Operand) -> u8
+pub(crate) fn near(o: Operand) -> u8
     ensures { λ r. ⌜ (r ≡ asks.near o) × (r ≤ 2) ⌝ }
 {
     match o {
@@ -36,7 +36,7 @@ pub fn near(o: Operand) -> u8
 }
 
 // Of another number.
-pub fn far(o: Operand) -> u8
+pub(crate) fn far(o: Operand) -> u8
     ensures { λ r. ⌜ (r ≡ asks.far o) × (r ≤ 3) ⌝ }
 {
     match o {
@@ -48,7 +48,7 @@ pub fn far(o: Operand) -> u8
 }
 
 // A name has a displacement if it asks for bytes of one.
-pub fn is_short(o: Operand) -> bool
+pub(crate) fn is_short(o: Operand) -> bool
     ensures { λ r. ⌜ r ≡ isShort (fieldOf o) ⌝ }
 {
     near(o) != 0

@@ -10,7 +10,7 @@ use record::Key;
 use record::Operand;
 use record::Record;
 
-pub fn base_of(o: Operand) -> Operand
+pub(crate) fn base_of(o: Operand) -> Operand
     ensures { λ r. ⌜ r ≡ baseOf o ⌝ }
 {
     match o {
@@ -58,7 +58,7 @@ fn short1(r: Record) -> u16
     }
 }
 
-pub fn key_of(r: Record) -> Key
+pub(crate) fn key_of(r: Record) -> Key
     ensures { λ k. ⌜ k ≡ key r ⌝ }
 {
     let opcode = r.opcode;

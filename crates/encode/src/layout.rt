@@ -82,7 +82,7 @@ fn wide_of(x: Record, k: Key) -> u32
     }
 }
 
-pub fn parts_of(x: Record, c: u8, k: Key) -> Parts
+pub(crate) fn parts_of(x: Record, c: u8, k: Key) -> Parts
     ensures { λ r. ⌜ r ≡ parts (faceOf x) c k ⌝ }
 {
     let opcode = k.opcode;
@@ -123,7 +123,7 @@ fn condition_fits(c: u8, o: Opcode) -> bool
     condition::has_byte(o)
 }
 
-pub fn fit(p: Parts, o: Opcode) -> bool
+pub(crate) fn fit(p: Parts, o: Opcode) -> bool
     requires { ⌜ (p .before ≤ 2) × (p .behind ≤ 2) ⌝ }
     ensures { λ r. ⌜ r ≡ fitParts p o ⌝ }
 {
@@ -161,7 +161,7 @@ fn with_rest(a: u8, b: u8, n: u8, v: u32, p: Parts) -> Plan
     }
 }
 
-pub fn plan_of(a: u8, b: u8, p: Parts) -> Plan
+pub(crate) fn plan_of(a: u8, b: u8, p: Parts) -> Plan
     requires { ⌜ (slender p ≡ true) × (p .before ≤ 2) × (p .behind ≤ 2) × (p .further ≤ 3) × (p .conditions ≤ 1) ⌝ }
     ensures { λ r. ⌜ (planned r ≡ a ∷ b ∷ laid p) × (r .count ≤ 3) × (r .«rest_count» ≤ 3) ⌝ }
 {

@@ -95,7 +95,7 @@ fn exact(o: Operand, n: u8, own: u32, v: u32) -> bool
     v == 0
 }
 
-pub fn sayable(x: Record, p: Parts, k: Key) -> bool
+pub(crate) fn sayable(x: Record, p: Parts, k: Key) -> bool
     requires { ⌜ p ≡ parts (faceOf x) (p .conditions) k ⌝ }
     ensures { λ r. ⌜ r ≡ says.sayable (faceOf x) (x .«imm_wide») (p .conditions) k ⌝ }
 {

@@ -41,7 +41,7 @@ fn write_plan(out: &mut [u8], p: Plan)
 }
 
 // A plan's bytes from a place of a buffer on: the rest of the buffer is lent to the writer. 6 with too little room.
-pub fn write_at(buf: &mut [u8], place: usize, p: Plan) -> Encoded
+pub(crate) fn write_at(buf: &mut [u8], place: usize, p: Plan) -> Encoded
     requires { ⌜ (p .count ≤ 3) × (p .«rest_count» ≤ 3) ⌝ }
     ensures { λ r. ⌜ (r .refusal ≡ written (bytes (planned p)) (now (buf .entry)) place .no) × (r .length ≡ written (bytes (planned p)) (now (buf .entry)) place .length) × (now (buf .exit) ≡ written (bytes (planned p)) (now (buf .entry)) place .buffer) ⌝ }
 {

@@ -7,7 +7,7 @@ use mathlib.Core.List.{List, [], _∷_}
 use Rattle.tests.proofs.Range.{each}
 use Rattle.record.specs.declared.Width.{Width}
 use Rattle.rows.specs.declared.Seen.{Seen}
-use Rattle.rows.specs.Row.{disp, Read, num, Face}
+use Rattle.rows.specs.Row.{disp, num, Face}
 use Rattle.rows.specs.Codes.{G, refuse}
 use Rattle.rows.specs.Rows.{row, row74, badShift}
 use Rattle.rows.specs.Run.{readDisp, run, runRow}

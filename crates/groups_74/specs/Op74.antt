@@ -1,7 +1,7 @@
 -- 74 and 75 as the code takes them apart: by tables of h. (The law that this is document 01's row is in proofs/Table74.)
 use Prim.Native.Nat.{ℕ, _%_}
 use mathlib.Core.Bool.{Bool, true, false}
-use mathlib.Core.List.{List, [], _∷_}
+use mathlib.Core.List.{[], _∷_}
 use lib.ListN.{getD}
 use lib.Dec.{ltb, eqb}
 use Rattle.tests.specs.Choice.{pick}

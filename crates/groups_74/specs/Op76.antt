@@ -1,7 +1,7 @@
 -- 76 and 77 as the code takes them apart: three shapes, with the opcode by a table of h. (The law that these are document 01's rows is in proofs/Table76.)
 use Prim.Native.Nat.{ℕ}
-use mathlib.Core.Bool.{Bool, true, false}
-use mathlib.Core.List.{List, [], _∷_}
+use mathlib.Core.Bool.{Bool, true}
+use mathlib.Core.List.{[], _∷_}
 use lib.ListN.{getD}
 use lib.Dec.{eqb}
 use Rattle.tests.specs.Choice.{pick}

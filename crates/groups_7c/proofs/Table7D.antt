@@ -1,6 +1,6 @@
 -- 7D: the code's tables and tests are document 01's rows.
 -- Assumes nothing.
-use Prim.Native.Nat.{ℕ, _≤_, _<_}
+use Prim.Native.Nat.{ℕ, _<_}
 use mathlib.Core.Path.{_≡_, refl}
 use lib.Dec.{ltb}
 use Rattle.tests.specs.Choice.{pick}

@@ -1,11 +1,10 @@
 -- Parts of 7C as the code takes them. (The laws that these are document 01's rows are in proofs/Table7C.)
 use Prim.Native.Nat.{ℕ, _%_}
 use mathlib.Core.Bool.{Bool, true, false}
-use mathlib.Core.List.{List, [], _∷_}
+use mathlib.Core.List.{[], _∷_}
 use lib.ListN.{getD}
 use lib.Dec.{ltb, eqb}
 use Rattle.tests.specs.Choice.{pick}
-use Rattle.record.specs.declared.Opcode.{Opcode}
 use Rattle.record.specs.declared.Opcode.the-variants.{NOP, MOVLL, MOVLH, MOVHL, MOVHH}
 use Rattle.record.specs.declared.Width.the-variants.{B}
 use Rattle.record.specs.declared.Operand.the-variants.{R0L}

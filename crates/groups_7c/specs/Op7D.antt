@@ -1,7 +1,7 @@
 -- Parts of 7D as the code takes them. (The laws that these are document 01's rows are in proofs/Table7D.)
 use Prim.Native.Nat.{ℕ, _+_, _%_}
-use mathlib.Core.Bool.{Bool, true, false}
-use mathlib.Core.List.{List, [], _∷_}
+use mathlib.Core.Bool.{Bool, true}
+use mathlib.Core.List.{[], _∷_}
 use lib.ListN.{getD}
 use lib.Dec.{ltb, leb, eqb}
 use Rattle.tests.specs.Choice.{pick}

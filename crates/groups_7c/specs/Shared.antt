@@ -1,7 +1,7 @@
 -- What 7C and 7D have together, as the code takes it apart. (The law that h = E is document 01's row is in proofs/Table7C7D.)
 use Prim.Native.Nat.{ℕ, _%_}
 use mathlib.Core.Bool.{Bool, true, false}
-use mathlib.Core.List.{List, [], _∷_}
+use mathlib.Core.List.{[], _∷_}
 use lib.ListN.{getD}
 use lib.Dec.{ltb, leb, eqb}
 use Rattle.tests.specs.Choice.{pick}
@@ -12,7 +12,7 @@ use Rattle.record.specs.declared.Size.the-variants as size
 use Rattle.record.specs.declared.Width.{Width}
 use Rattle.record.specs.declared.Operand.{Operand}
 use Rattle.record.specs.declared.Operand.the-variants.{Nothing, A0, A1, SP}
-use Rattle.rows.specs.Row.{Read, Row}
+use Rattle.rows.specs.Row.{Row}
 use Rattle.rows.specs.Codes.{nameI, I, refuse}
 use Rattle.rows.specs.Rows.{sizeOf, row, star, badMul, decimalFrom, decimalTo}
 

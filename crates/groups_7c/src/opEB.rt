@@ -1,5 +1,5 @@
 ghost use mathlib.Core.Path.{_≡_};
-ghost use mathlib.Core.List.{List, [], _∷_};
+ghost use mathlib.Core.List.{List, []};
 ghost use Prim.Native.Nat.{ℕ, _/_, _%_, _<_};
 ghost use Rattle.record.specs.declared.Opcode.the-variants.{NOP};
 ghost use Rattle.record.specs.declared.Width.the-variants as width;

@@ -1,12 +1,10 @@
 -- Twelve stores over the first twelve entries, and the size of what they store.
 -- Assumes nothing.
 use Prim.Native.Nat.{ℕ, _+_, _≤_, _<_}
-use mathlib.Core.Path.{_≡_, refl, sym, ap, _∙_, subst}
+use mathlib.Core.Path.{_≡_, sym, _∙_, subst}
 use mathlib.Core.List.{List, [], _∷_}
-use native.Mathlib.Omega.{arith}
 use lib.ListN.{length, getD, drop, set}
 use lib.Seq.{sets-eq, getD-drop}
-use Rattle.record.specs.declared.Answer.{Answer}
 use Rattle.rows.specs.Rows.{document01}
 use Rattle.rows.specs.Run.{decodeRows}
 use Rattle.rows.proofs.Taken.{counted}

@@ -1,6 +1,6 @@
 -- Each public function's promise leaves one outcome.
 -- Assumes nothing.
-use Prim.Native.Nat.{ℕ, _%_}
+use Prim.Native.Nat.{ℕ}
 use mathlib.Core.Bool.{Bool}
 use mathlib.Core.List.{List}
 use Rattle.tests.specs.Outcome.{OneOutcome}
@@ -10,8 +10,8 @@ use Rattle.record.specs.declared.Size.{Size}
 use Rattle.record.specs.declared.Width.{Width}
 use Rattle.record.specs.declared.Operand.{Operand}
 use Rattle.rows.specs.declared.Seen.{Seen}
-use Rattle.rows.specs.Row.{Num, disp, imm, imm20}
-use Rattle.rows.specs.Codes.{nameG, nameT, nameJ, nameK, nameI, sizeG, sizeT, sizeI, noPair, numJ}
+use Rattle.rows.specs.Row.{Num}
+use Rattle.rows.specs.Codes.{noPair}
 use Rattle.rows.specs.Rows.{sizeOf}
 use Rattle.rows.specs.Run.{accepted, begun, reading, refusal}
 use Rattle.readers.specs.Width.{widthOf}

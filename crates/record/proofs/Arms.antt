@@ -19,28 +19,34 @@ use Rattle.record.specs.declared.Opcode.the-variants.{NOP}
 use Rattle.record.specs.declared.Operand.{Operand}
 use Rattle.record.specs.declared.Operand.the-variants.{Nothing}
 use Rattle.record.specs.Numbers.{opcodeNo, operandNo}
-use Rattle.record.specs.Same.{among}
 use Rattle.record.proofs.Opcode as opcode
 use Rattle.record.proofs.Operand.{the-type}
 use Rattle.record.proofs.Apart.{opcodes, opcode-at, operands, operand-at, operands-apart}
+
+-- one of some numbers, as a test
+abbrev pub has : List ℕ → ℕ → Bool
+has [] x = false
+has (k ∷ ks) x = pick (eqb x k) true (has ks x)
 
 -- the numbers of an arm's names
 abbrev pub keys : List Operand → List ℕ
 keys [] = []
 keys (o ∷ os) = operandNo o ∷ keys os
 
--- and those that are left for the last arm
-abbrev pub without : List Operand → List Operand → List Operand
-without ns [] = []
-without ns (o ∷ os) = pick (among ns o) (without ns os) (o ∷ without ns os)
+abbrev pub opcodeKeys : List Opcode → List ℕ
+opcodeKeys [] = []
+opcodeKeys (o ∷ os) = opcodeNo o ∷ opcodeKeys os
+
+-- and those that are left for the last arm: of n numbers from i on, without some
+abbrev pub without : List ℕ → ℕ → ℕ → List ℕ
+without ks zero i = []
+without ks (suc n) i = pick (has ks i) (without ks n (suc i)) (i ∷ without ks n (suc i))
 
 abbrev pub others : List Operand → List ℕ
-others ns = keys (without ns operands)
+others ns = without (keys ns) 57 0
 
--- one of the numbers, as a test
-abbrev pub has : List ℕ → ℕ → Bool
-has [] x = false
-has (k ∷ ks) x = pick (eqb x k) true (has ks x)
+abbrev pub otherOpcodes : List Opcode → List ℕ
+otherOpcodes ns = without (opcodeKeys ns) 98 0
 
 has-first : (k x : ℕ) (ks : List ℕ) → x ≡ k → has (k ∷ ks) x ≡ true
 has-first k x ks e = rw (eq-eqb x k e) refl

@@ -1,6 +1,6 @@
 -- Sameness is an equivalence.
 -- Assumes nothing.
-use mathlib.Core.Path.{_≡_, refl, sym, _∙_}
+use mathlib.Core.Path.{refl, sym, _∙_}
 use Rattle.record.specs.declared.Record.{Record}
 use Rattle.record.specs.Same.{Same}
 

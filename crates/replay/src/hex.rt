@@ -4,7 +4,7 @@ ghost use Prim.Native.Nat.{_+_, _≤_, _<_};
 ghost use lib.ListN.{length};
 ghost use Rattle.replay.specs.Hex.{isDigit, digitOf, digitAt, byteAt, wordAt, longAt};
 
-pub fn is_digit(c: u8) -> bool
+pub(crate) fn is_digit(c: u8) -> bool
     ensures { λ r. ⌜ r ≡ isDigit c ⌝ }
 {
     if c < b'0' {
@@ -38,28 +38,28 @@ fn digit(c: u8) -> u8
     0
 }
 
-pub fn digit_at(text: &[u8], at: usize) -> u8
+pub(crate) fn digit_at(text: &[u8], at: usize) -> u8
     requires { ⌜ at < length (now text) ⌝ }
     ensures { λ r. ⌜ (r ≡ digitAt (now (text .entry)) at) × (r < 16) ⌝ }
 {
     digit(text[at])
 }
 
-pub fn byte_at(text: &[u8], at: usize) -> u8
+pub(crate) fn byte_at(text: &[u8], at: usize) -> u8
     requires { ⌜ at + 2 ≤ length (now text) ⌝ }
     ensures { λ r. ⌜ (r ≡ byteAt (now (text .entry)) at) × (r < 256) ⌝ }
 {
     16 * digit_at(text, at) + digit_at(text, at + 1)
 }
 
-pub fn word_at(text: &[u8], at: usize) -> u16
+pub(crate) fn word_at(text: &[u8], at: usize) -> u16
     requires { ⌜ at + 4 ≤ length (now text) ⌝ }
     ensures { λ r. ⌜ (r ≡ wordAt (now (text .entry)) at) × (r < 65536) ⌝ }
 {
     256 * (byte_at(text, at) as u16) + (byte_at(text, at + 2) as u16)
 }
 
-pub fn long_at(text: &[u8], at: usize) -> u32
+pub(crate) fn long_at(text: &[u8], at: usize) -> u32
     requires { ⌜ at + 8 ≤ length (now text) ⌝ }
     ensures { λ r. ⌜ r ≡ longAt (now (text .entry)) at ⌝ }
 {

@@ -76,7 +76,7 @@ fn answer_to(line: &[u8]) -> Answer
     decode::decode(&bytes[..count], 0)
 }
 
-pub fn judge(line: &[u8]) -> Verdict
+pub(crate) fn judge(line: &[u8]) -> Verdict
     ensures { λ r. ⌜ Says r (now (line .entry)) ⌝ }
 {
     if is_whole(line) {

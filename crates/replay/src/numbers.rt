@@ -19,7 +19,7 @@ pub struct Numbers {
     pub length: usize,
 }
 
-pub fn numbers_in(line: &[u8]) -> Numbers
+pub(crate) fn numbers_in(line: &[u8]) -> Numbers
     requires { ⌜ length (now line) ≡ 49 ⌝ }
     ensures { λ r. ⌜ r ≡ numbersIn (now (line .entry)) ⌝ }
 {
@@ -37,7 +37,7 @@ pub fn numbers_in(line: &[u8]) -> Numbers
     }
 }
 
-pub fn numbers_of(a: Answer) -> Numbers
+pub(crate) fn numbers_of(a: Answer) -> Numbers
     ensures { λ r. ⌜ r ≡ numbersOf a ⌝ }
 {
     let inst = a.inst;
@@ -60,7 +60,7 @@ pub fn numbers_of(a: Answer) -> Numbers
     }
 }
 
-pub fn same(x: Numbers, y: Numbers) -> bool
+pub(crate) fn same(x: Numbers, y: Numbers) -> bool
     ensures { λ r. ⌜ (r ≡ true → x ≡ y) × (x ≡ y → r ≡ true) ⌝ }
 {
     if x.refusal != y.refusal {

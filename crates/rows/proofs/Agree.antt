@@ -1,11 +1,11 @@
 -- Rows and manual: where they say the same, where they differ, and where one of them is silent. One test over all codes, and its laws.
 -- Assumes nothing.
 use Prim.Native.Nat.{ℕ, _+_, _<_}
-use mathlib.Core.Path.{_≡_, refl, sym, ap, subst}
+use mathlib.Core.Path.{_≡_, refl, ap}
 use mathlib.Core.Bool.{Bool, true, false, not}
 use lib.Dec.{T, eqb, eqb→eq}
 use borrow.Author.Tests.{eq-eqb, ne-eqb}
-use Rattle.tests.specs.Choice.{pick, both, either}
+use Rattle.tests.specs.Choice.{both, either}
 use Rattle.tests.specs.Range.{upto}
 use Rattle.tests.proofs.Choice.{both-left, both-right}
 use Rattle.tests.proofs.Range.{upto-at}
@@ -14,7 +14,7 @@ use Rattle.manual.specs.Bits.{conditionAt}
 use Rattle.manual.specs.Packed.{packed, packedCondition}
 use Rattle.manual.specs.Entries.{entryAt}
 use Rattle.manual.proofs.Packing.{over, injective}
-use Rattle.record.specs.Numbers.{opcodeNo, widthNo}
+use Rattle.record.specs.Numbers.{opcodeNo}
 use Rattle.rows.specs.Row.{Condition, is, isnt, Row}
 use Rattle.rows.specs.Codes.{condOf}
 use Rattle.rows.specs.Rows.{known, rowsOf, document01}

@@ -4,9 +4,8 @@ use Prim.Native.Nat.{ℕ, _+_, _-_, _≤_, _<_}
 use mathlib.Core.Path.{_≡_, refl, sym, subst}
 use mathlib.Core.Bool.{Bool, true, false}
 use native.Mathlib.Omega.{arith}
-use lib.Dec.{T, ltb, leb, eqb}
+use lib.Dec.{T, ltb, leb}
 use borrow.Author.Tests.{ltb-false, leb-true, eqb-true}
-use Rattle.tests.specs.Choice.{pick}
 use Rattle.tests.specs.Range.{upto}
 use Rattle.tests.proofs.Choice.{both-left, both-right}
 use Rattle.tests.proofs.Range.{upto-at}

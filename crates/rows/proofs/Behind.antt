@@ -1,24 +1,22 @@
 -- No byte behind those taken counts, for any row table: an answer other than refusal 1 is the answer to whatever begins with the bytes it took.
 -- Assumes nothing.
 use Prim.Native.Nat.{ℕ, zero, suc, _+_, _*_, _^_, _%_, _≤_, _<_}
-use mathlib.Core.Path.{_≡_, refl, sym, ap, _∙_, subst}
+use mathlib.Core.Path.{_≡_, refl, ap, _∙_, subst}
 use mathlib.Core.Bool.{Bool, true, false}
 use mathlib.Core.List.{List, [], _∷_}
 use native.Mathlib.Omega.{arith}
 use lib.ListN.{length, getD}
 use lib.Dec.{eqb, leb, ltb}
-use borrow.Author.Tests.{leb-true, ltb-true, lt-ltb, le-leb}
-use Rattle.record.specs.declared.Answer.{Answer}
-use Rattle.record.specs.declared.Opcode.{Opcode}
+use borrow.Author.Tests.{ltb-true, lt-ltb, le-leb}
 use Rattle.tests.specs.Choice.{pick}
 use Rattle.rows.specs.declared.Seen.{Seen}
 use Rattle.rows.specs.declared.Got.{Got}
 use Rattle.rows.specs.declared.Got.the-variants.{On, Short}
-use Rattle.rows.specs.Row.{Num, disp, imm, imm20, Read, num, cond, stop, Condition, is, isnt, Face, Row, Table}
+use Rattle.rows.specs.Row.{Num, disp, imm, imm20, Read, num, cond, stop, Condition, is, isnt, Face, Table}
 use Rattle.rows.specs.Codes.{condOf}
 use Rattle.rows.specs.Fate.{bytesOf}
-use Rattle.rows.specs.Run.{bytes, reading, readDisp, readImm, twentyBits, withDisp, withImm, andThen, judged, past, renamed, refusal, run, runRow, begun, decodeBy}
-use Rattle.rows.proofs.Taken.{Went, reading-went, Counted, run-counted, row-counted}
+use Rattle.rows.specs.Run.{bytes, reading, readDisp, readImm, twentyBits, withDisp, withImm, andThen, past, renamed, refusal, run, runRow, begun, decodeBy}
+use Rattle.rows.proofs.Taken.{Went, reading-went, run-counted, row-counted}
 
 -- cs begins with the first k bytes of bs
 pub record Begins (k : ℕ) (bs cs : List ℕ) : Type 0 where

@@ -1,6 +1,6 @@
 -- How many codes of document 01 come to what, and how far its rows read, by computation.
 -- Assumes nothing.
-use Prim.Native.Nat.{ℕ, _+_, _≤_, _<_}
+use Prim.Native.Nat.{ℕ, _≤_, _<_}
 use mathlib.Core.Path.{_≡_, refl}
 use mathlib.Core.Bool.{Bool, true}
 use lib.Dec.{T, leb, leb→le}

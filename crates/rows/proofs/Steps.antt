@@ -1,7 +1,7 @@
 -- How a row's reads go on, in the form that a group's calls give: what a call ensures, and which case its answer is.
 -- Assumes nothing.
 use Prim.Native.Nat.{ℕ, _+_, _≤_, _<_}
-use mathlib.Core.Path.{_≡_, refl, sym, ap, _∙_}
+use mathlib.Core.Path.{_≡_, sym, ap, _∙_}
 use mathlib.Core.Bool.{Bool}
 use mathlib.Core.List.{List, [], _∷_}
 use lib.ListN.{length, getD}
@@ -14,7 +14,7 @@ use Rattle.record.specs.declared.Operand.{Operand}
 use Rattle.rows.specs.declared.Seen.{Seen}
 use Rattle.rows.specs.declared.Got.{Got}
 use Rattle.rows.specs.declared.Got.the-variants.{On, Short}
-use Rattle.rows.specs.Row.{Num, Refusal, refusalNo, Read, num, stop, cond, Condition, is, isnt, Face}
+use Rattle.rows.specs.Row.{Num, Refusal, refusalNo, Read, num, stop, cond, is, isnt, Face}
 use Rattle.rows.specs.Codes.{condOf}
 use Rattle.rows.specs.Run.{reading, andThen, accepted, refusal, renamed, past, run}
 

@@ -4,7 +4,6 @@ use mathlib.Core.Bool.{Bool, true, false}
 use mathlib.Core.List.{List, [], _∷_}
 use mathlib.Core.Path.{_≡_}
 use lib.Dec.{T, eqb, ltb}
-use Rattle.record.specs.declared.Opcode.{Opcode}
 use Rattle.record.specs.declared.Opcode.the-variants.{STC}
 use Rattle.record.specs.declared.Size.{Size}
 use Rattle.record.specs.declared.Size.the-variants as size
@@ -13,11 +12,11 @@ use Rattle.record.specs.declared.Width.the-variants as width
 use Rattle.record.specs.declared.Operand.{Operand}
 use Rattle.record.specs.declared.Operand.the-variants.{Nothing, Imm4}
 use Rattle.tests.specs.Choice.{pick, both, either}
-use Rattle.record.specs.Numbers.{opcodeNo, sizeNo, widthNo}
+use Rattle.record.specs.Numbers.{opcodeNo, widthNo}
 use Rattle.record.specs.Same.{is, Field, nowhere, wide, short, early, fieldOf, field0, field1}
-use Rattle.manual.specs.Meaning.{Suffix, none, B, W, L, A, Number, plus, minus, Spot, nothing, plain, behind, within, carry, counter, flag, Meaning, Entry, meaning, empty}
+use Rattle.manual.specs.Meaning.{Suffix, none, B, W, L, A, Number, plus, minus, Spot, nothing, plain, behind, within, carry, counter, flag, Meaning}
 use Rattle.manual.specs.Packed.{suffixNo}
-use Rattle.rows.specs.Row.{Num, disp, imm, imm20, Read, num, cond, stop, Face, Row}
+use Rattle.rows.specs.Row.{disp, imm, imm20, Read, num, cond, stop, Row}
 
 -- where a field's number stands: from which byte on, in how many bytes, none if it was not read
 pub record Span : Type 0 where

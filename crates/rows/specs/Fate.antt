@@ -1,9 +1,9 @@
 -- What a row comes to, whatever bytes stand behind its code.
 use Prim.Native.Nat.{ℕ, _+_}
-use mathlib.Core.Bool.{Bool, true, false}
+use mathlib.Core.Bool.{Bool}
 use mathlib.Core.List.{List, [], _∷_}
 use lib.Dec.{eqb}
-use Rattle.rows.specs.Row.{Num, disp, imm, imm20, refusalNo, Read, num, cond, stop, Row}
+use Rattle.rows.specs.Row.{Num, disp, imm, imm20, refusalNo, Read, num, cond, stop}
 use Rattle.rows.specs.Rows.{document01}
 
 -- 0 for a row that accepts, else its refusal

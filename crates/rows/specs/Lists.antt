@@ -1,9 +1,9 @@
 -- The lists of docs/DIFFERENCES.md, by code.
 use Prim.Native.Nat.{ℕ, _/_, _%_}
-use mathlib.Core.Bool.{Bool, true, false}
+use mathlib.Core.Bool.{Bool, false}
 use mathlib.Core.List.{List, [], _∷_}
 use lib.Dec.{eqb, ltb, leb}
-use Rattle.tests.specs.Choice.{pick, both, either}
+use Rattle.tests.specs.Choice.{both, either}
 
 abbrev pub oneOf : List ℕ → ℕ → Bool
 oneOf [] x = false

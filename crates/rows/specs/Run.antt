@@ -1,6 +1,6 @@
 -- Document 01, "What comes back": one reader of all rows.
 use Prim.Native.Nat.{ℕ, zero, suc, _+_, _*_, _^_, _%_}
-use mathlib.Core.Bool.{Bool, true, false}
+use mathlib.Core.Bool.{Bool}
 use mathlib.Core.List.{List, [], _∷_}
 use lib.ListN.{getD, length}
 use lib.Dec.{ltb, leb, eqb}

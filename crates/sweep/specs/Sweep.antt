@@ -1,7 +1,6 @@
 -- Decoding repeated: the places of the accepted instructions, and where and why it stops.
 use Prim.Native.Nat.{ℕ, zero, suc, _+_}
-use mathlib.Core.Bool.{Bool, true, false}
-use mathlib.Core.List.{List, [], _∷_}
+use mathlib.Core.List.{List}
 use lib.ListN.{length, drop, set}
 use lib.Dec.{ltb, leb, eqb}
 use Rattle.tests.specs.Choice.{pick}

@@ -7,7 +7,6 @@ use native.Mathlib.Omega.{arith}
 use native.Mathlib.Nat.{not-suc-le-zero}
 use lib.Dec.{T, eqb}
 use borrow.Author.Tests.{eqb-true, eqb-false}
-use Rattle.tests.specs.Choice.{both}
 use Rattle.tests.specs.Range.{upto, Each}
 use Rattle.tests.proofs.Choice.{both-left, both-right}
 

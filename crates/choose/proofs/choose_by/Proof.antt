@@ -7,8 +7,7 @@ use native.Mathlib.Nat.{zero-add}
 use borrow.Author.Needs.{needs}
 use Rattle.record.specs.declared.Opcode.{Opcode}
 use Rattle.record.specs.declared.Opcode.the-variants.{NOP, ADCF, FCLR, FSET, GE, LDIPL, LT, MULU, NO, POPM, PUSHM}
-use Rattle.record.specs.Numbers.{opcodeNo}
-use Rattle.record.proofs.Arms.{of-opcodes}
+use Rattle.record.proofs.Arms.{opcodeKeys, of-opcodes}
 use Rattle.shortest.specs.Direct.{Choice, code, nothing}
 use Rattle.shortest.specs.Choose.{codeJ, chooseBy}
 use Rattle.choose.specs.declared.Code.{Code}
@@ -40,7 +39,7 @@ none c =
     let args = c .before .before .args in
     c .fixed12 .ensures
     ∙ as-nothing (chooseBy (args .o) (args .q))
-    (of-opcodes (λ o. isNothing (chooseBy o (args .q))) (opcodeNo NOP ∷ opcodeNo ADCF ∷ opcodeNo FCLR ∷ opcodeNo FSET ∷ opcodeNo GE ∷ opcodeNo LDIPL ∷ opcodeNo LT ∷ opcodeNo MULU ∷ opcodeNo NO ∷ opcodeNo POPM ∷ opcodeNo PUSHM ∷ []) tt (args .o) (c .before .match .keys88))
+    (of-opcodes (λ o. isNothing (chooseBy o (args .q))) (opcodeKeys (NOP ∷ ADCF ∷ FCLR ∷ FSET ∷ GE ∷ LDIPL ∷ LT ∷ MULU ∷ NO ∷ POPM ∷ PUSHM ∷ [])) tt (args .o) (c .before .match .keys88))
 
 pub choose-by-spec : {M : Type 1} → statement M
 unfolding chooseBy

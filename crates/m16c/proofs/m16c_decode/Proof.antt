@@ -1,13 +1,11 @@
 -- `m16c::m16c_decode` meets its contract.
 -- Assumes nothing.
-use Prim.Native.Nat.{_≤_}
 use mathlib.Core.Path.{ap, _∙_}
 use mathlib.Core.List.{_++_}
 use native.Mathlib.Omega.{arith}
 use lib.ListN.{drop}
 use borrow.Author.Tests.{lt-ltb, le-ltb}
 use borrow.Author.Needs.{needs}
-use Rattle.rows.specs.Run.{decodeRows}
 use Rattle.m16c.specs.Decoded.{decoded, numbersOf}
 use Rattle.m16c.proofs.Stores.{small, short}
 use Rattle.m16c.proofs.m16c_decode.Statement.{statement}

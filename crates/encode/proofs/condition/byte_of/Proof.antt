@@ -1,22 +1,28 @@
 -- `encode::condition::byte_of` meets its contract.
 -- Assumes nothing.
+use Prim.Native.Nat.{ℕ}
+use mathlib.Core.Path.{_≡_, sym, ap, _∙_}
 use mathlib.Core.List.{[], _∷_}
-use lib.Dec.{eqb}
+use lib.Dec.{T, eqb}
 use borrow.Author.Needs.{needs}
 use borrow.Author.Tests.{eqb-true}
+use Rattle.record.specs.declared.Opcode.{Opcode}
 use Rattle.record.specs.declared.Opcode.the-variants.{BMGTU, BMEQ, BMN, BMLE, BMO, BMGE, BMLTU, BMLEU, BMNE, BMPZ, BMGT, BMNO, BMLT}
-use Rattle.record.proofs.Arms.{of-opcodes}
+use Rattle.record.proofs.Arms.{otherOpcodes, of-opcodes}
 use Rattle.rows.specs.Codes.{condOf}
 use Rattle.shortest.specs.Search.{condByte}
-use Rattle.encode.proofs.ByteOf.{without, keys, byte-at}
+use Rattle.shortest.proofs.Bools.{so}
 use Rattle.encode.proofs.condition.byte_of.Statement.{statement}
 use Rattle.encode.proofs.condition.byte_of.Tie as tie
+
+byte-at : (p : Opcode) (v : ℕ) → T (eqb v (condByte p)) → {o : Opcode} → o ≡ p → v ≡ condByte o
+byte-at p v t e = eqb-true _ _ (so _ t) ∙ ap condByte (sym e)
 
 none : tie.Need-returns-14
 unfolding condByte condOf
 none c =
     eqb-true _ _
-    (of-opcodes (λ o. eqb 0 (condByte o)) (without (keys (BMGTU ∷ BMEQ ∷ BMN ∷ BMLE ∷ BMO ∷ BMGE ∷ BMLTU ∷ BMLEU ∷ BMNE ∷ BMPZ ∷ BMGT ∷ BMNO ∷ BMLT ∷ [])) 98 0) tt (c .before .args .o) (c .match .keys14))
+    (of-opcodes (λ o. eqb 0 (condByte o)) (otherOpcodes (BMGTU ∷ BMEQ ∷ BMN ∷ BMLE ∷ BMO ∷ BMGE ∷ BMLTU ∷ BMLEU ∷ BMNE ∷ BMPZ ∷ BMGT ∷ BMNO ∷ BMLT ∷ [])) tt (c .before .args .o) (c .match .keys14))
 
 pub byte-of-spec : {M : Type 1} → statement M
 unfolding condByte condOf

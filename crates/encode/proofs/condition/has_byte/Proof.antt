@@ -7,10 +7,9 @@ use lib.Dec.{eqb}
 use borrow.Author.Needs.{needs}
 use borrow.Author.Tests.{eqb-true}
 use Rattle.record.specs.declared.Opcode.the-variants.{BMGEU}
-use Rattle.record.proofs.Arms.{of-opcodes, bit, bits-apart}
+use Rattle.record.proofs.Arms.{otherOpcodes, of-opcodes, bit, bits-apart}
 use Rattle.rows.specs.Codes.{condOf}
 use Rattle.shortest.specs.Search.{means, condByte}
-use Rattle.encode.proofs.ByteOf.{without, keys}
 use Rattle.encode.proofs.condition.has_byte.Statement.{statement}
 use Rattle.encode.proofs.condition.has_byte.Tie as tie
 
@@ -24,7 +23,7 @@ returns-2 c =
     ap (λ n. not (eqb n 0)) (c .byte-of .ensures)
     ∙ bits-apart _ _
     (eqb-true _ _
-    (of-opcodes (λ o. eqb (bit (not (eqb (condByte o) 0))) (bit (means (condOf (condByte o)) o))) (without (keys (BMGEU ∷ [])) 98 0) tt (c .before .before .args .o) (c .before .match .keys2)))
+    (of-opcodes (λ o. eqb (bit (not (eqb (condByte o) 0))) (bit (means (condOf (condByte o)) o))) (otherOpcodes (BMGEU ∷ [])) tt (c .before .before .args .o) (c .before .match .keys2)))
 
 pub has-byte-spec : {M : Type 1} → statement M
 has-byte-spec = tie.close (tie.spec (λ c. search needs) (λ c κs. search needs) returns returns-2)

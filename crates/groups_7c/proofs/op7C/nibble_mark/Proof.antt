@@ -1,6 +1,5 @@
 -- `groups_7c::op7C::nibble_mark` meets its contract.
 -- Assumes nothing.
-use Prim.Native.Nat.{_%_}
 use mathlib.Core.Path.{_∙_}
 use borrow.Author.Needs.{needs}
 use Rattle.groups_7c.proofs.Table7C.{meant}

@@ -1,0 +1,23 @@
+-- The promises on names and on the choice leave one outcome each.
+-- Assumes nothing.
+use Rattle.tests.specs.Outcome.{OneOutcome}
+use Rattle.tests.proofs.Outcome.{one-outcome}
+use Rattle.record.specs.declared.Key.{Key}
+use Rattle.record.specs.declared.Operand.{Operand}
+use Rattle.record.specs.declared.Width.{Width}
+use Rattle.record.specs.Same.{is, fieldOf}
+use Rattle.shortest.specs.Choose as choice
+use Rattle.shortest.specs.Coarse.{whole}
+use Rattle.choose.specs.Coded.{coded, isWide}
+
+pub choose : (k : Key) → OneOutcome (coded (choice.choose k))
+choose k = one-outcome (coded (choice.choose k))
+
+pub same : (a b : Operand) → OneOutcome (is a b)
+same a b = one-outcome (is a b)
+
+pub is-wide : (o : Operand) → OneOutcome (isWide (fieldOf o))
+is-wide o = one-outcome (isWide (fieldOf o))
+
+pub is-whole : (w : Width) (o : Operand) → OneOutcome (whole w o)
+is-whole w o = one-outcome (whole w o)
