@@ -1,0 +1,63 @@
+-- The words of a line spell the line.
+-- Assumes nothing.
+use Prim.Native.Nat.{ℕ}
+use mathlib.Core.Path.{_≡_, sym, ap, _∙_}
+use mathlib.Core.List.{List, [], _∷_, _++_, map, append-assoc, append-nil}
+use lib.Dec.{T}
+use lib.ListN.{take-append-drop}
+use Rattle.record.specs.declared.Record.{Record}
+use Rattle.record.specs.declared.Size.{Size}
+use Rattle.record.specs.declared.Size.the-variants as size
+use Rattle.record.specs.declared.Width.{Width}
+use Rattle.record.specs.declared.Width.the-variants as width
+use Rattle.record.specs.declared.Operand.{Operand}
+use Rattle.record.specs.Same.{key}
+use Rattle.text.specs.Characters.{spelled}
+use Rattle.text.specs.Line.{widthText, opcodeText, sizeText, shown, digitsOf, numberText, operandText, fromWidth, lineOf}
+use Rattle.text.specs.Packed.{pack, text, head, tail, placeText, lengthText, parts}
+use Rattle.text.proofs.Unpacked.{wordy, wordy-hex, wordy-equals, joined, Wordy, done, _also_, text-of}
+use Rattle.text.proofs.Spelling.{opcode-wordy, head-wordy, tail-wordy, digits-few}
+
+width-wordy : (w : Width) → T (wordy 8 (widthText w))
+width-wordy width.None = tt
+width-wordy width.B = tt
+width-wordy width.W = tt
+
+size-wordy : (s : Size) → T (wordy 8 (sizeText s))
+size-wordy size.None = tt
+size-wordy size.B = tt
+size-wordy size.W = tt
+size-wordy size.L = tt
+
+number-wordy : (a : Operand) (v : ℕ) → T (wordy 8 (numberText a v))
+number-wordy a v = wordy-equals (digitsOf a) v (digits-few a)
+
+parts-wordy : (r : Record) → Wordy (parts r)
+parts-wordy r =
+    width-wordy (r .width) also opcode-wordy (r .opcode) also size-wordy (r .size)
+    also head-wordy (r .op0) also tail-wordy (r .op0) also number-wordy (r .op0) (key r .number0)
+    also head-wordy (r .op1) also tail-wordy (r .op1) also number-wordy (r .op1) (key r .number1)
+    also head-wordy (r .op2) also tail-wordy (r .op2) also number-wordy (r .op2) (key r .number2) also done
+
+-- a name's two words, and the number behind them
+operand-joined : (a : Operand) (v : ℕ) (xs : List ℕ) → head (shown a) ++ (tail (shown a) ++ (numberText a v ++ xs)) ≡ operandText a v ++ xs
+operand-joined a v xs =
+    sym (append-assoc (head (shown a)) (tail (shown a)) (numberText a v ++ xs))
+    ∙ ap (λ s. s ++ (numberText a v ++ xs)) (take-append-drop 8 (shown a)) ∙ sym (append-assoc (shown a) (numberText a v) xs)
+
+parts-joined : (r : Record) → joined (parts r) ≡ fromWidth r
+unfolding fromWidth
+parts-joined r =
+    ap (λ s. widthText (r .width) ++ (opcodeText (r .opcode) ++ (sizeText (r .size) ++ s)))
+    (operand-joined (r .op0) (key r .number0) _ ∙ ap (λ s. operandText (r .op0) (key r .number0) ++ s)
+    (operand-joined (r .op1) (key r .number1) _ ∙ ap (λ s. operandText (r .op1) (key r .number1) ++ s)
+    (operand-joined (r .op2) (key r .number2) [] ∙ append-nil (operandText (r .op2) (key r .number2)))))
+
+pub from-width : (r : Record) → text (0 ∷ 0 ∷ map pack (parts r)) ≡ fromWidth r
+from-width r = text-of {xss = [] ∷ [] ∷ parts r} (tt also tt also parts-wordy r) ∙ parts-joined r
+
+pub whole : (place : ℕ) (r : Record) → text (pack (placeText place) ∷ pack (lengthText (r .length)) ∷ map pack (parts r)) ≡ lineOf place r
+unfolding lineOf
+whole place r =
+    text-of {xss = placeText place ∷ lengthText (r .length) ∷ parts r} (wordy-hex 4 4 place (spelled " ") tt also wordy-hex 1 7 (r .length) (spelled " ") tt also parts-wordy r)
+    ∙ ap (λ s. placeText place ++ (lengthText (r .length) ++ s)) (parts-joined r)

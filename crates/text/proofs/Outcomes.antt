@@ -1,0 +1,21 @@
+-- The promises leave one outcome: what is returned, and the buffer that was lent.
+-- Assumes nothing.
+use Prim.Native.Nat.{ℕ}
+use mathlib.Core.List.{List}
+use Rattle.tests.specs.Outcome.{OneOutcome}
+use Rattle.tests.proofs.Outcome.{one-outcome}
+use Rattle.record.specs.declared.Record.{Record}
+use Rattle.text.specs.Left.{left}
+use Rattle.text.specs.Line.{lineOf, fromWidth}
+
+pub line-returned : (place : ℕ) (r : Record) (buffer : List ℕ) → OneOutcome (left (lineOf place r) buffer .written)
+line-returned place r buffer = one-outcome (left (lineOf place r) buffer .written)
+
+pub line-buffer : (place : ℕ) (r : Record) (buffer : List ℕ) → OneOutcome (left (lineOf place r) buffer .buffer)
+line-buffer place r buffer = one-outcome (left (lineOf place r) buffer .buffer)
+
+pub from-width-returned : (r : Record) (buffer : List ℕ) → OneOutcome (left (fromWidth r) buffer .written)
+from-width-returned r buffer = one-outcome (left (fromWidth r) buffer .written)
+
+pub from-width-buffer : (r : Record) (buffer : List ℕ) → OneOutcome (left (fromWidth r) buffer .buffer)
+from-width-buffer r buffer = one-outcome (left (fromWidth r) buffer .buffer)
