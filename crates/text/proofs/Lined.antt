@@ -1,10 +1,11 @@
 -- The words of a line spell the line.
 -- Assumes nothing.
-use Prim.Native.Nat.{ℕ}
+use Prim.Native.Nat.{ℕ, _≤_}
 use mathlib.Core.Path.{_≡_, sym, ap, _∙_}
 use mathlib.Core.List.{List, [], _∷_, _++_, map, append-assoc, append-nil}
 use lib.Dec.{T}
-use lib.ListN.{take-append-drop}
+use native.Mathlib.Omega.{arith}
+use lib.ListN.{length, take-append-drop}
 use Rattle.record.specs.declared.Record.{Record}
 use Rattle.record.specs.declared.Size.{Size}
 use Rattle.record.specs.declared.Size.the-variants as size
@@ -13,9 +14,9 @@ use Rattle.record.specs.declared.Width.the-variants as width
 use Rattle.record.specs.declared.Operand.{Operand}
 use Rattle.record.specs.Same.{key}
 use Rattle.text.specs.Characters.{spelled}
-use Rattle.text.specs.Line.{widthText, opcodeText, sizeText, shown, digitsOf, numberText, operandText, fromWidth, lineOf}
-use Rattle.text.specs.Packed.{pack, text, head, tail, placeText, lengthText, parts}
-use Rattle.text.proofs.Unpacked.{wordy, wordy-hex, wordy-equals, joined, Wordy, done, _also_, text-of}
+use Rattle.text.specs.Line.{widthText, opcodeText, sizeText, shown, digitsOf, numberText, operandText, fromWidth, lineOf, endText, refusedText}
+use Rattle.text.specs.Packed.{pack, text, head, tail, placeText, lengthText, parts, endParts, refusedParts}
+use Rattle.text.proofs.Unpacked.{wordy, wordy-hex, wordy-digits, wordy-equals, joined, Wordy, done, _also_, text-of, text-short}
 use Rattle.text.proofs.Spelling.{opcode-wordy, head-wordy, tail-wordy, digits-few}
 
 width-wordy : (w : Width) → T (wordy 8 (widthText w))
@@ -61,3 +62,14 @@ unfolding lineOf
 whole place r =
     text-of {xss = placeText place ∷ lengthText (r .length) ∷ parts r} (wordy-hex 4 4 place (spelled " ") tt also wordy-hex 1 7 (r .length) (spelled " ") tt also parts-wordy r)
     ∙ ap (λ s. placeText place ++ (lengthText (r .length) ++ s)) (parts-joined r)
+
+pub ending : (place : ℕ) → text (map pack (endParts place)) ≡ endText place
+ending place = text-of {xss = endParts place} (tt also wordy-digits 4 4 place also done)
+
+pub refusing : (place refusal taken : ℕ) → text (map pack (refusedParts place refusal taken)) ≡ refusedText place refusal taken
+refusing place refusal taken =
+    text-of {xss = refusedParts place refusal taken} (wordy-digits 4 4 place also tt also wordy-digits 1 6 refusal also tt also wordy-digits 1 7 taken also done)
+
+-- fourteen words, so at most 112 characters
+pub line-short : (place : ℕ) (r : Record) → length (lineOf place r) ≤ 112
+line-short place r = omega (arith, ap length (whole place r), text-short (pack (placeText place) ∷ pack (lengthText (r .length)) ∷ map pack (parts r)))

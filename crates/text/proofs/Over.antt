@@ -1,7 +1,7 @@
 -- A text over a part of a buffer, from a place on, written a character or a part at a time.
 -- Assumes nothing.
 use Prim.Native.Nat.{ℕ, suc, _+_, _-_, _≤_, _<_}
-use mathlib.Core.Path.{_≡_, sym, ap, _∙_}
+use mathlib.Core.Path.{_≡_, sym, ap, _∙_, subst}
 use mathlib.Core.List.{List, [], _∷_, _++_, append-assoc, append-nil}
 use native.Mathlib.Omega.{arith}
 use native.Mathlib.Numerals.{add-one}
@@ -73,3 +73,7 @@ module _ (xs bs : List ℕ) {n : ℕ} (e : n ≡ length xs) where
   pub room : {ys : List ℕ} → n ≤ length bs → ys ≡ over xs bs → (_≡_ {A = Written} (record { refusal = 0; length = n }) (left xs bs .written)) × (ys ≡ left xs bs .buffer)
   unfolding left
   room h q = let g : length xs ≤ length bs = omega arith in (rw (le-leb _ _ g) (ap (λ (k : ℕ). record { refusal = 0; length = k }) e), rw (le-leb _ _ g) q)
+
+-- what is said of a text is said of an equal one
+pub said : (bs : List ℕ) {xs ys zs : List ℕ} {w : Written} → ys ≡ xs → (w ≡ left ys bs .written) × (zs ≡ left ys bs .buffer) → (w ≡ left xs bs .written) × (zs ≡ left xs bs .buffer)
+said bs {xs} {ys} {zs} {w} e h = subst (λ s. (w ≡ left s bs .written) × (zs ≡ left s bs .buffer)) e h

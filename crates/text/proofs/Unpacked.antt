@@ -6,13 +6,14 @@ use mathlib.Core.Bool.{Bool, true, false}
 use mathlib.Core.List.{List, [], _∷_, _++_, map, append-nil}
 use native.Mathlib.Omega.{arith}
 use native.Mathlib.Nat.{suc-add, zero-add}
-use lib.Dec.{T, ltb}
+use lib.ListN.{length, length-append}
+use lib.Dec.{T, ltb, eqb}
 use borrow.Author.Tests.{lt-ltb, ltb-true, ne-eqb}
-use Rattle.tests.specs.Choice.{both}
+use Rattle.tests.specs.Choice.{pick, both}
 use Rattle.tests.proofs.Choice.{both-left, both-right}
 use Rattle.text.specs.Characters.{hex}
 use Rattle.text.specs.Line.{equals}
-use Rattle.text.specs.Packed.{pack, upTo, text}
+use Rattle.text.specs.Packed.{pack, upTo, chars, text}
 use Rattle.text.proofs.Packing.{spent}
 use Rattle.text.proofs.Digits.{character}
 
@@ -49,11 +50,14 @@ wordy-hex (suc k) n v cs t =
     subst (λ m. T (wordy m (hex (suc k) v ++ cs))) (sym (suc-add k n))
     (rw (lt-ltb _ _ (h .0), lt-ltb _ _ (h .1)) (wordy-hex k n v cs t))
 
+pub wordy-digits : (k n v : ℕ) → T (wordy (k + n) (hex k v))
+wordy-digits k n v = subst (λ cs. T (wordy (k + n) cs)) (append-nil (hex k v)) (wordy-hex k n v [] tt)
+
 pub wordy-equals : (n v : ℕ) → n ≤ 5 → T (wordy 8 (equals n v))
 wordy-equals zero v h = tt
 wordy-equals (suc n) v h =
     let e : suc n + (7 - suc n) ≡ 7 = omega arith in
-    subst (λ m. T (wordy m (hex (suc n) v))) e (subst (λ cs. T (wordy (suc n + (7 - suc n)) cs)) (append-nil (hex (suc n) v)) (wordy-hex (suc n) (7 - suc n) v [] tt))
+    subst (λ m. T (wordy m (hex (suc n) v))) e (wordy-digits (suc n) (7 - suc n) v)
 
 abbrev pub joined : List (List ℕ) → List ℕ
 joined [] = []
@@ -69,3 +73,18 @@ pub text-of : {xss : List (List ℕ)} → Wordy xss → text (map pack xss) ≡ 
 unfolding text
 text-of done = refl
 text-of (_also_ {xs} {xss} t ts) = ap (λ a. a ++ text (map pack xss)) (unpacked 8 xs t) ∙ ap (λ b. xs ++ b) (text-of ts)
+
+-- eight characters a word are the most
+short : (n w : ℕ) → length (upTo n w) ≤ n
+unfolding upTo
+short zero w = omega arith
+short (suc n) w = by (eqb w 0) (short n (w / 256))
+  where
+    by : (b : Bool) → length (upTo n (w / 256)) ≤ n → length (pick b [] (w % 256 ∷ upTo n (w / 256))) ≤ suc n
+    by true i = omega arith
+    by false i = omega arith
+
+pub text-short : (ws : List ℕ) → length (text ws) ≤ 8 * length ws
+unfolding text
+text-short [] = omega arith
+text-short (w ∷ ws) = omega (arith, length-append (chars w) (text ws), short 8 w, text-short ws)

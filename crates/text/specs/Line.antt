@@ -1,4 +1,4 @@
--- Document 01, "Bench lines": the line of a record at a place, without the newline.
+-- Document 01, "Bench lines": the lines of a listing, without the newline.
 use Prim.Native.Nat.{ℕ, zero, suc}
 use mathlib.Core.List.{List, [], _∷_, _++_}
 use Rattle.tests.specs.Choice.{pick}
@@ -69,3 +69,11 @@ fromWidth r =
 -- the place in four digits, the length in one (of a larger place or length its low digits), and the rest
 unfoldable pub lineOf : ℕ → Record → List ℕ
 lineOf place r = hex 4 place ++ (spelled " " ++ (hex 1 (r .length) ++ (spelled " " ++ fromWidth r)))
+
+-- the end of an image
+abbrev pub endText : ℕ → List ℕ
+endText place = spelled "END " ++ hex 4 place
+
+-- a refused place: the refusal and the bytes taken, a digit each
+abbrev pub refusedText : ℕ → ℕ → ℕ → List ℕ
+refusedText place refusal taken = hex 4 place ++ (spelled " REFUSED " ++ (hex 1 refusal ++ (spelled " TAKEN " ++ hex 1 taken)))

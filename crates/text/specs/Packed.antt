@@ -67,3 +67,9 @@ parts r =
     ∷ head (shown (r .op0)) ∷ tail (shown (r .op0)) ∷ numberText (r .op0) (key r .number0)
     ∷ head (shown (r .op1)) ∷ tail (shown (r .op1)) ∷ numberText (r .op1) (key r .number1)
     ∷ head (shown (r .op2)) ∷ tail (shown (r .op2)) ∷ numberText (r .op2) (key r .number2) ∷ []
+
+abbrev pub endParts : ℕ → List (List ℕ)
+endParts place = spelled "END " ∷ hex 4 place ∷ []
+
+abbrev pub refusedParts : ℕ → ℕ → ℕ → List (List ℕ)
+refusedParts place refusal taken = hex 4 place ∷ spelled " REFUSED" ∷ (spelled " " ++ hex 1 refusal) ∷ spelled " TAKEN " ∷ hex 1 taken ∷ []

@@ -1,11 +1,11 @@
-// The listing's line of a record, into a lent buffer.
+// The listing's lines, without their newlines, into a lent buffer.
 mod names; // names
 mod words; // the line in parts
 mod write; // the parts into the buffer
 
 ghost use mathlib.Core.Path.{_≡_};
 ghost use Rattle.text.specs.Left.{left};
-ghost use Rattle.text.specs.Line.{lineOf, fromWidth};
+ghost use Rattle.text.specs.Line.{lineOf, fromWidth, endText, refusedText};
 use record::Record;
 
 // Refusal 0 and the length written, or 6 and 0.
@@ -14,7 +14,7 @@ pub struct Written {
     pub length: usize,
 }
 
-// The line of a record at a place, without a newline.
+// The line of a record at a place.
 pub fn line(place: usize, r: Record, out: &mut [u8]) -> Written
     ensures { λ w. ⌜ (w ≡ left (lineOf place r) (now (out .entry)) .written) × (now (out .exit) ≡ left (lineOf place r) (now (out .entry)) .buffer) ⌝ }
 {
@@ -27,5 +27,21 @@ pub fn line_from_width(r: Record, out: &mut [u8]) -> Written
     ensures { λ w. ⌜ (w ≡ left (fromWidth r) (now (out .entry)) .written) × (now (out .exit) ≡ left (fromWidth r) (now (out .entry)) .buffer) ⌝ }
 {
     let words = words::words_of(0, 0, r);
+    write::deliver(&words, out)
+}
+
+// The line at an image's end.
+pub fn end(place: usize, out: &mut [u8]) -> Written
+    ensures { λ w. ⌜ (w ≡ left (endText place) (now (out .entry)) .written) × (now (out .exit) ≡ left (endText place) (now (out .entry)) .buffer) ⌝ }
+{
+    let words = words::end_words(place);
+    write::deliver(&words, out)
+}
+
+// The line of a refused place.
+pub fn refused(place: usize, refusal: u8, taken: usize, out: &mut [u8]) -> Written
+    ensures { λ w. ⌜ (w ≡ left (refusedText place refusal taken) (now (out .entry)) .written) × (now (out .exit) ≡ left (refusedText place refusal taken) (now (out .entry)) .buffer) ⌝ }
+{
+    let words = words::refused_words(place, refusal, taken);
     write::deliver(&words, out)
 }

@@ -5,7 +5,7 @@ ghost use Prim.Native.Nat.{_<_, _≤_};
 ghost use Rattle.tests.specs.Choice.{pick};
 ghost use Rattle.text.specs.Characters.{digit, hex};
 ghost use Rattle.text.specs.Line.{widthText, sizeText, equals};
-ghost use Rattle.text.specs.Packed.{pack, isShort, fieldNumber, placeText, lengthText, parts};
+ghost use Rattle.text.specs.Packed.{pack, isShort, fieldNumber, placeText, lengthText, parts, endParts, refusedParts};
 use crate::names;
 use crate::names::Field;
 use crate::names::Shown;
@@ -165,4 +165,22 @@ pub fn length_word(length: usize) -> u64
     ensures { λ r. ⌜ r ≡ pack (lengthText length) ⌝ }
 {
     digits(1, length as u64) + 0x2000
+}
+
+pub fn end_words(place: usize) -> [u64; 2]
+    ensures { λ w. ⌜ w ≡ map pack (endParts place) ⌝ }
+{
+    [0x20444E45, digits(4, place as u64)]
+}
+
+pub fn refused_words(place: usize, refusal: u8, taken: usize) -> [u64; 5]
+    ensures { λ w. ⌜ w ≡ map pack (refusedParts place refusal taken) ⌝ }
+{
+    [
+        digits(4, place as u64),
+        0x4445535546455220,
+        0x20 + 0x100 * digits(1, refusal as u64),
+        0x204E454B415420,
+        digits(1, taken as u64),
+    ]
 }

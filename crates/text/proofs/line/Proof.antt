@@ -3,8 +3,8 @@
 use mathlib.Core.Path.{ap, _∙_}
 use mathlib.Core.List.{_∷_, map}
 use borrow.Author.Needs.{needs}
-use Rattle.text.specs.Left.{left}
 use Rattle.text.specs.Packed.{pack, text, parts}
+use Rattle.text.proofs.Over.{said}
 use Rattle.text.proofs.Lined.{whole}
 use Rattle.text.proofs.line.Statement.{statement}
 use Rattle.text.proofs.line.Tie as tie
@@ -14,7 +14,7 @@ returns c =
     let start = c .before .before .before .before .before .before .before .before .before .args in
     let parted = c .before .before .before .before .before .words-of .ensures in
     let e = ap text (parted ∙ (λ i. c .before .before .before .before .before .before .before .place-word .ensures i ∷ c .before .before .before .before .before .before .length-word .ensures i ∷ map pack (parts (start .r)))) ∙ whole (start .place) (start .r) in
-    (c .before .before .deliver .ensures .0 ∙ ap (λ s. left s (start .out .now) .written) e, c .before .before .deliver .ensures .1 ∙ ap (λ s. left s (start .out .now) .buffer) e)
+    said (start .out .now) e (c .before .before .deliver .ensures)
 
 pub line-spec : {M : Type 1} → statement M
 line-spec = tie.close (tie.spec (λ c κs. search needs) (λ c κs. search needs) (λ c κs. search needs) (λ c. search needs) (λ c κs. search needs) (λ c. search needs) returns)

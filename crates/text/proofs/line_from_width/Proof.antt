@@ -2,8 +2,8 @@
 -- Assumes nothing.
 use mathlib.Core.Path.{ap, _∙_}
 use borrow.Author.Needs.{needs}
-use Rattle.text.specs.Left.{left}
 use Rattle.text.specs.Packed.{text}
+use Rattle.text.proofs.Over.{said}
 use Rattle.text.proofs.Lined.{from-width}
 use Rattle.text.proofs.line_from_width.Statement.{statement}
 use Rattle.text.proofs.line_from_width.Tie as tie
@@ -12,7 +12,7 @@ returns : tie.Need-returns
 returns c =
     let start = c .before .before .before .before .before .before .before .args in
     let e = ap text (c .before .before .before .before .before .words-of .ensures) ∙ from-width (start .r) in
-    (c .before .before .deliver .ensures .0 ∙ ap (λ s. left s (start .out .now) .written) e, c .before .before .deliver .ensures .1 ∙ ap (λ s. left s (start .out .now) .buffer) e)
+    said (start .out .now) e (c .before .before .deliver .ensures)
 
 pub line-from-width-spec : {M : Type 1} → statement M
 line-from-width-spec = tie.close (tie.spec (λ c κs. search needs) (λ c. search needs) (λ c κs. search needs) (λ c. search needs) returns)

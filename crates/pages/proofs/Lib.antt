@@ -1,0 +1,3 @@
+pub mod Closed
+pub mod Turns
+pub mod Pages
