@@ -1,3 +1,4 @@
 pub mod Closed
 pub mod Turns
 pub mod Pages
+pub mod Bench

@@ -8,7 +8,6 @@ use native.Mathlib.Omega.{arith}
 use lib.Dec.{leb, eqb}
 use lib.ListN.{length, drop, length-drop}
 use borrow.Author.Tests.{le-leb, lt-leb, leb-true, leb-false, eq-eqb, ne-eqb, eqb-true}
-use Rattle.tests.specs.Choice.{pick}
 use Rattle.record.specs.declared.Answer.{Answer}
 use Rattle.rows.specs.Rows.{document01}
 use Rattle.rows.specs.Run.{decodeRows}
