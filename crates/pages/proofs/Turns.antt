@@ -3,25 +3,16 @@
 use Prim.Native.Nat.{ℕ, zero, suc, _+_, _-_, _≤_, _<_}
 use mathlib.Core.Path.{_≡_, refl, sym, ap, _∙_}
 use mathlib.Core.Bool.{Bool, true, false}
-use mathlib.Core.List.{List, _++_}
+use mathlib.Core.List.{List, [], _++_}
 use native.Mathlib.Omega.{arith}
 use lib.Dec.{leb, eqb}
-use lib.ListN.{length, drop, length-drop}
+use lib.ListN.{length, drop}
 use borrow.Author.Tests.{le-leb, lt-leb, leb-true, leb-false, eq-eqb, ne-eqb, eqb-true}
 use Rattle.record.specs.declared.Answer.{Answer}
-use Rattle.rows.specs.Rows.{document01}
 use Rattle.rows.specs.Run.{decodeRows}
-use Rattle.rows.proofs.Taken.{counted}
-use Rattle.rows.proofs.Length.{at-least}
+use Rattle.sweep.proofs.Turns.{inside}
 use Rattle.text.specs.Line.{lineOf, endText, refusedText}
 use Rattle.pages.specs.Listing.{ended, turn, go, listed}
-
--- an accepted instruction lies inside the image
-pub inside : (bs : List ℕ) (p : ℕ) {x : Answer} → x ≡ decodeRows (drop p bs) → x .refusal ≡ 0 → (2 ≤ x .taken) × (x .taken ≤ length bs - p)
-inside bs p {x} d z = (
-  rw d (at-least document01 (drop p bs) (sym (ap (λ y. y .refusal) d) ∙ z)),
-  rw d (rw length-drop at (counted document01 (drop p bs) .within)),
-)
 
 module _ (bs : List ℕ) where
   over-there : (k p : ℕ) → length bs ≤ p → go bs k p ≡ ended (endText p)
@@ -39,7 +30,7 @@ module _ (bs : List ℕ) where
     where
       by : (b : Bool) → eqb (decodeRows (drop p bs) .refusal) 0 ≡ b → turn p (decodeRows (drop p bs)) f ≡ turn p (decodeRows (drop p bs)) g
       by true z =
-          let two = inside bs p refl (eqb-true _ 0 z) .0 in
+          let two = inside bs p 0 [] refl (eqb-true _ 0 z) .0 in
           rw z (ap (λ ys. ended (lineOf p (decodeRows (drop p bs) .inst)) ++ ys) (e (p + decodeRows (drop p bs) .taken) (omega arith)))
       by false z = rw z
 
@@ -67,5 +58,5 @@ module _ (bs : List ℕ) where
 
     pub accepted : x .refusal ≡ 0 → listed bs p ≡ ended (lineOf p (x .inst)) ++ listed bs (p + x .taken)
     accepted z =
-        let two = inside bs p d z .0 in
+        let two = inside bs p 0 [] d z .0 in
         turned ∙ rw (eq-eqb _ 0 z) (ap (λ ys. ended (lineOf p (x .inst)) ++ ys) (enough (length bs - (p + 1)) (length bs - (p + x .taken)) (p + x .taken) (omega arith) (omega arith)))

@@ -3,7 +3,7 @@
 use Prim.Native.Nat.{ℕ, _+_, _*_, _-_, _≤_}
 use mathlib.Core.Path.{_≡_, refl, _∙_}
 use mathlib.Core.Bool.{true, false}
-use mathlib.Core.List.{List, _++_}
+use mathlib.Core.List.{List, [], _++_}
 use native.Mathlib.Omega.{arith}
 use lib.ListN.{length, take, drop, length-append, length-drop}
 use borrow.Author.Needs.{needs}
@@ -12,8 +12,9 @@ use Rattle.text.specs.Characters.{spelled}
 use Rattle.text.specs.Line.{lineOf, endText, refusedText}
 use Rattle.text.proofs.Lined.{line-short}
 use Rattle.text.proofs.Over.{rest, lent-length}
+use Rattle.sweep.proofs.Turns.{inside}
 use Rattle.pages.specs.Listing.{ended, listed}
-use Rattle.pages.proofs.Turns.{inside, at-end, refused, accepted}
+use Rattle.pages.proofs.Turns.{at-end, refused, accepted}
 use Rattle.pages.proofs.Pages.{more, last}
 use Rattle.pages.proofs.page.fill.Statement.{statement}
 use Rattle.pages.proofs.page.fill.Tie as tie
@@ -83,17 +84,17 @@ add-at : tie.Need-add-at Inv-loop μ-loop
 add-at c = omega (arith, c .before .before .put-line .ensures .0, line-room (c .before .before .before .before .before .before .before .before .before .before .loop .place) (c .before .before .before .before .before .before .before .decode .result .inst))
 
 add-place : tie.Need-add-place Inv-loop μ-loop
-add-place c = let i = inside (c .before .before .before .before .before .before .before .before .before .before .before .before .before .before .args .image .now) (c .before .before .before .before .before .before .before .before .before .before .before .loop .place) (c .before .before .before .before .before .before .before .before .decode .ensures) (c .before .before .before .before .before .before .if2 .left) in omega arith
+add-place c = let i = inside (c .before .before .before .before .before .before .before .before .before .before .before .before .before .before .args .image .now) (c .before .before .before .before .before .before .before .before .before .before .before .loop .place) 0 [] (c .before .before .before .before .before .before .before .before .decode .ensures) (c .before .before .before .before .before .before .if2 .left) in omega arith
 
 loop-less : tie.Need-loop-less Inv-loop μ-loop
-loop-less c = let i = inside (c .before .before .before .before .before .before .before .before .before .before .before .before .before .before .args .image .now) (c .before .before .before .before .before .before .before .before .before .before .before .loop .place) (c .before .before .before .before .before .before .before .before .decode .ensures) (c .before .before .before .before .before .before .if2 .left) in omega arith
+loop-less c = let i = inside (c .before .before .before .before .before .before .before .before .before .before .before .before .before .before .args .image .now) (c .before .before .before .before .before .before .before .before .before .before .before .loop .place) 0 [] (c .before .before .before .before .before .before .before .before .decode .ensures) (c .before .before .before .before .before .before .if2 .left) in omega arith
 
 loop-again : tie.Need-loop-again Inv-loop μ-loop
 loop-again c =
     let l = c .before .before .before .before .before .before .before .before .before .before .before .loop in
     let d = c .before .before .before .before .before .before .before .before .decode in
     let image = c .before .before .before .before .before .before .before .before .before .before .before .before .before .before .args .image .now in
-    let i = inside (c .before .before .before .before .before .before .before .before .before .before .before .before .before .before .args .image .now) (c .before .before .before .before .before .before .before .before .before .before .before .loop .place) (c .before .before .before .before .before .before .before .before .decode .ensures) (c .before .before .before .before .before .before .if2 .left) in
+    let i = inside (c .before .before .before .before .before .before .before .before .before .before .before .before .before .before .args .image .now) (c .before .before .before .before .before .before .before .before .before .before .before .loop .place) 0 [] (c .before .before .before .before .before .before .before .before .decode .ensures) (c .before .before .before .before .before .before .if2 .left) in
     let n = c .before .before .before .put-line .ensures in
     let xs = ended (lineOf (l .place) (d .result .inst)) in
     let short = line-room (l .place) (d .result .inst) in
