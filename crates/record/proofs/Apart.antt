@@ -2,8 +2,6 @@
 -- Assumes nothing.
 use Prim.Native.Nat.{ℕ}
 use mathlib.Core.Path.{_≡_, refl, sym, ap, _∙_}
-use mathlib.Core.List.{List, [], _∷_}
-use lib.ListN.{getD}
 use Rattle.record.specs.declared.Opcode.{Opcode}
 use Rattle.record.specs.declared.Opcode.the-variants.{NOP, ABS, ADC, ADCF, ADD, AND, BAND, BCLR, BMEQ, BMGEU, BMGT, BMGTU, BMLE, BMLEU, BMLTU, BMLT, BMNO, BMGE, BMN, BMNE, BMO, BMPZ, BNAND, BNOR, BNOT, BNTST, BNXOR, BOR, BSET, BTST, BTSTC, BTSTS, BXOR, CMP, DADC, DADD, DIV, DIVU, DIVX, DSBB, DSUB, ENTER, EXITD, EXTS, FCLR, FSET, GE, INT, JGE, JGT, JLE, JLT, JMPI, JNO, JO, JSRI, LDC, LDCTX, LDE, LDIPL, LT, MOV, MOVA, MOVHH, MOVHL, MOVLH, MOVLL, MUL, MULU, NEG, NO, NOT, OR, POP, POPC, POPM, PUSH, PUSHA, PUSHC, PUSHM, RMPA, ROLC, RORC, ROT, SBB, SHA, SHL, SMOVB, SMOVF, SSTR, STC, STCTX, STE, SUB, TST, WAIT, XCHG, XOR}
 use Rattle.record.specs.declared.Size.{Size}
@@ -13,17 +11,12 @@ use Rattle.record.specs.declared.Width.the-variants as width
 use Rattle.record.specs.declared.Operand.{Operand}
 use Rattle.record.specs.declared.Operand.the-variants.{Nothing, Imm4, Imm8, Imm16, R0L, R0H, R1L, R1H, R0, R1, R2, R3, R2R0, R3R1, A0, A1, A1A0, «Bit_R0», «Bit_R1», «Bit_R2», «Bit_R3», «Bit_A0», «Bit_A1», «Bit_Deref_A0», «Bit_Deref_A1», «Bit_Disp8_A0», «Bit_Disp8_A1», «Bit_Disp8_SB», «Bit_Disp8_FB», «Bit_Disp16_A0», «Bit_Disp16_A1», «Bit_Disp16_SB», «Bit_Abs16», «Disp8_A0», «Disp8_A1», «Disp8_SB», «Disp8_FB», «Disp8_SP», «Disp16_A0», «Disp16_A1», «Disp16_SB», «Disp20_A0», «Disp20_A1», «Deref_A0», «Deref_A1», «Deref_A1A0», Abs16, Abs20, Disp8, RegList, INTBL, INTBH, FLG, ISP, SP, SB, FB}
 use Rattle.record.specs.Numbers.{opcodeNo, sizeNo, widthNo, operandNo}
+pub use Rattle.record.specs.Names.{opcodes, opcodeAt, sizeAt, widthAt, operands, operandAt}
 
 -- a number that a name can be found by tells it
 module _ {A : Type 0} (no : A → ℕ) (name : ℕ → A) (found : (a : A) → name (no a) ≡ a) where
   told : (a b : A) → no a ≡ no b → a ≡ b
   told a b e = sym (found a) ∙ ap name e ∙ found b
-
-abbrev pub opcodes : List Opcode
-opcodes = NOP ∷ ABS ∷ ADC ∷ ADCF ∷ ADD ∷ AND ∷ BAND ∷ BCLR ∷ BMEQ ∷ BMGEU ∷ BMGT ∷ BMGTU ∷ BMLE ∷ BMLEU ∷ BMLTU ∷ BMLT ∷ BMNO ∷ BMGE ∷ BMN ∷ BMNE ∷ BMO ∷ BMPZ ∷ BNAND ∷ BNOR ∷ BNOT ∷ BNTST ∷ BNXOR ∷ BOR ∷ BSET ∷ BTST ∷ BTSTC ∷ BTSTS ∷ BXOR ∷ CMP ∷ DADC ∷ DADD ∷ DIV ∷ DIVU ∷ DIVX ∷ DSBB ∷ DSUB ∷ ENTER ∷ EXITD ∷ EXTS ∷ FCLR ∷ FSET ∷ GE ∷ INT ∷ JGE ∷ JGT ∷ JLE ∷ JLT ∷ JMPI ∷ JNO ∷ JO ∷ JSRI ∷ LDC ∷ LDCTX ∷ LDE ∷ LDIPL ∷ LT ∷ MOV ∷ MOVA ∷ MOVHH ∷ MOVHL ∷ MOVLH ∷ MOVLL ∷ MUL ∷ MULU ∷ NEG ∷ NO ∷ NOT ∷ OR ∷ POP ∷ POPC ∷ POPM ∷ PUSH ∷ PUSHA ∷ PUSHC ∷ PUSHM ∷ RMPA ∷ ROLC ∷ RORC ∷ ROT ∷ SBB ∷ SHA ∷ SHL ∷ SMOVB ∷ SMOVF ∷ SSTR ∷ STC ∷ STCTX ∷ STE ∷ SUB ∷ TST ∷ WAIT ∷ XCHG ∷ XOR ∷ []
-
-abbrev pub opcodeAt : ℕ → Opcode
-opcodeAt k = getD opcodes k NOP
 
 pub opcode-at : (o : Opcode) → opcodeAt (opcodeNo o) ≡ o
 opcode-at NOP = refl
@@ -125,28 +118,16 @@ opcode-at WAIT = refl
 opcode-at XCHG = refl
 opcode-at XOR = refl
 
-abbrev pub sizeAt : ℕ → Size
-sizeAt k = getD (size.None ∷ size.B ∷ size.W ∷ size.L ∷ []) k size.None
-
 pub size-at : (s : Size) → sizeAt (sizeNo s) ≡ s
 size-at size.None = refl
 size-at size.B = refl
 size-at size.W = refl
 size-at size.L = refl
 
-abbrev pub widthAt : ℕ → Width
-widthAt k = getD (width.None ∷ width.B ∷ width.W ∷ []) k width.None
-
 pub width-at : (w : Width) → widthAt (widthNo w) ≡ w
 width-at width.None = refl
 width-at width.B = refl
 width-at width.W = refl
-
-abbrev pub operands : List Operand
-operands = Nothing ∷ Imm4 ∷ Imm8 ∷ Imm16 ∷ R0L ∷ R0H ∷ R1L ∷ R1H ∷ R0 ∷ R1 ∷ R2 ∷ R3 ∷ R2R0 ∷ R3R1 ∷ A0 ∷ A1 ∷ A1A0 ∷ «Bit_R0» ∷ «Bit_R1» ∷ «Bit_R2» ∷ «Bit_R3» ∷ «Bit_A0» ∷ «Bit_A1» ∷ «Bit_Deref_A0» ∷ «Bit_Deref_A1» ∷ «Bit_Disp8_A0» ∷ «Bit_Disp8_A1» ∷ «Bit_Disp8_SB» ∷ «Bit_Disp8_FB» ∷ «Bit_Disp16_A0» ∷ «Bit_Disp16_A1» ∷ «Bit_Disp16_SB» ∷ «Bit_Abs16» ∷ «Disp8_A0» ∷ «Disp8_A1» ∷ «Disp8_SB» ∷ «Disp8_FB» ∷ «Disp8_SP» ∷ «Disp16_A0» ∷ «Disp16_A1» ∷ «Disp16_SB» ∷ «Disp20_A0» ∷ «Disp20_A1» ∷ «Deref_A0» ∷ «Deref_A1» ∷ «Deref_A1A0» ∷ Abs16 ∷ Abs20 ∷ Disp8 ∷ RegList ∷ INTBL ∷ INTBH ∷ FLG ∷ ISP ∷ SP ∷ SB ∷ FB ∷ []
-
-abbrev pub operandAt : ℕ → Operand
-operandAt k = getD operands k Nothing
 
 pub operand-at : (o : Operand) → operandAt (operandNo o) ≡ o
 operand-at Nothing = refl

@@ -1,4 +1,5 @@
 pub mod Apart
+pub mod Unnamed
 pub mod Arms
 pub mod Same
 pub mod Outcomes

@@ -7,6 +7,7 @@ use Rattle.record.specs.declared.Size.{Size}
 use Rattle.record.specs.declared.Width.{Width}
 use Rattle.record.specs.declared.Operand.{Operand}
 use Rattle.record.specs.Numbers.{opcodeNo, sizeNo, widthNo, operandNo}
+use Rattle.record.specs.Names.{opcodeAt, sizeAt, widthAt, operandAt}
 
 pub opcode-number : (x : Opcode) → OneOutcome (opcodeNo x)
 opcode-number x = one-outcome (opcodeNo x)
@@ -19,3 +20,15 @@ width-number x = one-outcome (widthNo x)
 
 pub operand-number : (x : Operand) → OneOutcome (operandNo x)
 operand-number x = one-outcome (operandNo x)
+
+pub opcode-at : (n : ℕ) → OneOutcome (opcodeAt n)
+opcode-at n = one-outcome (opcodeAt n)
+
+pub size-at : (n : ℕ) → OneOutcome (sizeAt n)
+size-at n = one-outcome (sizeAt n)
+
+pub width-at : (n : ℕ) → OneOutcome (widthAt n)
+width-at n = one-outcome (widthAt n)
+
+pub operand-at : (n : ℕ) → OneOutcome (operandAt n)
+operand-at n = one-outcome (operandAt n)

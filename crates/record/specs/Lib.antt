@@ -1,3 +1,4 @@
 pub mod Numbers
+pub mod Names
 pub mod Blank
 pub mod Same

@@ -2,6 +2,7 @@
 // Names are spelled as in the Rust and in document 01. `NOP`, `None` and `Nothing` stand first: they are what the blank record holds.
 
 pub mod numbers; // the number of each name
+pub mod names; // the name of each number
 
 pub enum Opcode {
     NOP,
