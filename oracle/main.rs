@@ -1,5 +1,6 @@
-// The oracle on the command line: answers hex lines from standard input, or prints the stored list.
+// The oracle on the command line: answers hex lines from standard input, or prints the stored list or the odd records.
 
+mod odd;
 mod stored;
 
 use std::env;
@@ -9,7 +10,7 @@ use std::process::ExitCode;
 
 use oracle::Answer;
 
-const USAGE: &str = "usage: oracle [--stored]  (without the option: hex lines on standard input)";
+const USAGE: &str = "usage: oracle [--stored | --odd]  (without an option: hex lines on standard input)";
 
 fn main() -> ExitCode {
     match run() {
@@ -26,6 +27,7 @@ fn run() -> Result<(), String> {
     match options.as_slice() {
         [] => answer_lines(io::stdin().lock()),
         [option] if option == "--stored" => print(&stored::list()),
+        [option] if option == "--odd" => print(&odd::list()?),
         _ => Err(USAGE.to_string()),
     }
 }

@@ -82,7 +82,7 @@ fn stored_line(bytes: &[u8]) -> String {
     )
 }
 
-fn packed_hex(bytes: &[u8]) -> String {
+pub fn packed_hex(bytes: &[u8]) -> String {
     let mut digits = String::new();
     for byte in bytes {
         write!(digits, "{:02X}", byte).expect("a string takes every write");
