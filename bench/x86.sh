@@ -27,8 +27,15 @@ find_kit() {
     [ -x "$tools/bin/ld.lld" ] || fail "the Rattle kit at $kit has no toolchain for $machine"
 }
 
-# Sets `library`. The kit to build with may be named; default: the one that rt belongs to.
+# Sets `library`, which has the functions that both programs call. The kit to build with may be named; default: the one that rt belongs to.
 build_library() {
+    find_or_make_library "$@"
+    for function in m16c_decode m16c_encode m16c_sweep; do
+        grep -q "$function" "$library" || fail "the library has no function $function: $library"
+    done
+}
+
+find_or_make_library() {
     library=${M16C_LIBRARY:-}
     if [ -n "$library" ]; then
         [ -r "$library" ] || fail "M16C_LIBRARY: no such archive: $library"

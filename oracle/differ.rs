@@ -1,5 +1,10 @@
 // The differential run: the port and the Rust on the same bytes, every field that the Rust has.
+// Here are the running, the counting and the decoder's strings; encoder.rs and sweeps.rs have the rest.
 // usage: differ [--all]
+
+mod brute;
+mod encoder;
+mod sweeps;
 
 use std::env;
 use std::fmt::Write;
@@ -24,6 +29,13 @@ const FIELD_NAMES: [&str; FIELDS] = [
     "taken", "opcode", "size", "width", "operand 0", "operand 1", "operand 2", "imm_wide", "dispabs", "first", "length",
     "marked",
 ];
+const TAKEN: usize = 0;
+const OPCODE: usize = 1;
+const SIZE: usize = 2;
+const WIDTH: usize = 3;
+const OPERANDS: [usize; 3] = [4, 5, 6];
+const IMM_WIDE: usize = 7;
+const DISPABS: usize = 8;
 const FIRST: usize = 9;
 const MARKED: usize = 11;
 // What an accepted answer is free in, because the Rust does not have it, with the greatest number that fits.
@@ -98,6 +110,7 @@ fn judged(rust: &Answer, port: &Answer) -> Answer {
 #[derive(Default)]
 struct Tally {
     compared: u64,
+    accepted: u64,
     different: u64,
     first_difference: Option<String>,
 }
@@ -107,12 +120,14 @@ impl Tally {
     fn compare(&mut self, image: &[u8], at: usize) -> Answer {
         let rust = expected(image.get(at..).unwrap_or(&[]));
         let port = ported(image, at);
-        self.count(judged(&rust, &port) == rust, || describe(image, at, &rust, &port));
+        self.count(rust.refusal == 0, judged(&rust, &port) == rust, || describe(image, at, &rust, &port));
         rust
     }
 
-    fn count(&mut self, same: bool, describe: impl FnOnce() -> String) {
+    /// One comparison: whether 0 is the right refusal, and whether the port answered right.
+    fn count(&mut self, accepted: bool, same: bool, describe: impl FnOnce() -> String) {
         self.compared += 1;
+        self.accepted += u64::from(accepted);
         if !same {
             self.different += 1;
             self.first_difference.get_or_insert_with(describe);
@@ -122,6 +137,7 @@ impl Tally {
     /// Adds what came after.
     fn add(&mut self, later: Tally) {
         self.compared += later.compared;
+        self.accepted += later.accepted;
         self.different += later.different;
         self.first_difference = self.first_difference.take().or(later.first_difference);
     }
@@ -152,7 +168,7 @@ fn hex(bytes: &[u8]) -> String {
 
 // ---- The kinds of strings
 
-/// Strings of one kind, in parts that do not depend on each other: the outcome is the same however threads share them.
+/// Strings, records or images of one kind, in parts that do not depend on each other: the outcome is the same however threads share them.
 struct Kind {
     name: &'static str,
     quick_parts: usize,
@@ -262,7 +278,7 @@ fn buffers(part: usize, tally: &mut Tally) {
         }
         let mut buffer = [UNWRITTEN; LONGEST_BUFFER];
         let refusal = decode_into(&string, 0, &mut buffer[..room]);
-        tally.count(refusal == wanted_refusal && buffer == wanted, || {
+        tally.count(wanted_refusal == 0, refusal == wanted_refusal && buffer == wanted, || {
             let bytes = hex(&string);
             format!("{bytes} with room for {room} numbers\n  wanted {wanted_refusal} {wanted:X?}\n  port   {refusal} {buffer:X?}\n")
         });
@@ -335,16 +351,18 @@ fn main() -> ExitCode {
             return ExitCode::from(2);
         }
     };
-    println!("{:>13} {:>13}  strings", "compared", "different");
     let mut total = Tally::default();
-    for kind in KINDS {
-        let parts = if all { kind.all_parts } else { kind.quick_parts };
-        if parts == 0 {
-            continue;
+    for (what, kinds) in [("decode", KINDS), ("encode", encoder::KINDS), ("sweep", sweeps::KINDS)] {
+        println!("{:>13} {:>13} {:>13}  {what}", "compared", "accepted", "different");
+        for kind in kinds {
+            let parts = if all { kind.all_parts } else { kind.quick_parts };
+            if parts == 0 {
+                continue;
+            }
+            let tally = run(kind, parts);
+            print_line(&tally, kind.name);
+            total.add(tally);
         }
-        let tally = run(kind, parts);
-        print_line(&tally, kind.name);
-        total.add(tally);
     }
     print_line(&total, "together");
     match total.first_difference {
@@ -357,7 +375,7 @@ fn main() -> ExitCode {
 }
 
 fn print_line(tally: &Tally, name: &str) {
-    println!("{:13} {:13}  {name}", tally.compared, tally.different);
+    println!("{:13} {:13} {:13}  {name}", tally.compared, tally.accepted, tally.different);
 }
 
 fn run(kind: &Kind, parts: usize) -> Tally {

@@ -1,0 +1,230 @@
+// An encoder by brute force over the Rust: every unmarked code, with a record's numbers filled in where the code reads them, is
+// decoded by the Rust; of the strings that say the same instruction the shortest is taken, then the first in byte order.
+// No row is written down here. Which codes can name an instruction, and what their bytes are for, is found by trying.
+
+use std::collections::HashMap;
+use std::sync::OnceLock;
+
+use crate::{code_of, expected, ported, CODES, DISPABS, FIELDS, FIRST, IMM_WIDE, OPCODE, OPERANDS, SIZE, TAKEN, WIDTH};
+
+pub type Record = [u32; FIELDS];
+
+/// None, B and W.
+pub const WIDTHS: usize = 3;
+const LONGEST: usize = 7;
+
+// ---- Sameness
+
+/// All that counts of a record: two records are the same instruction if this agrees.
+#[derive(PartialEq, Eq)]
+struct Key {
+    names: Names,
+    numbers: [u32; 3],
+}
+
+#[derive(Clone, PartialEq, Eq, Hash)]
+struct Names {
+    opcode: u32,
+    size: u32,
+    width: u32,
+    bases: [usize; 3],
+}
+
+/// None if a number names nothing, or does not fit in its field of the record.
+fn key_of(record: &Record) -> Option<Key> {
+    let named = |field: usize, count: usize| ((record[field] as usize) < count).then_some(record[field]);
+    if record[DISPABS] > 0xFFFF || record[FIRST] > 0xFFFF {
+        return None;
+    }
+    let [op0, op1, op2] = OPERANDS.map(|field| operand_names().get(record[field] as usize));
+    let operands = [op0?, op1?, op2?];
+    Some(Key {
+        names: Names {
+            opcode: named(OPCODE, oracle::OPCODE_NAMES.len())?,
+            size: named(SIZE, oracle::SIZE_NAMES.len())?,
+            width: named(WIDTH, WIDTHS)?,
+            bases: operands.map(|operand| operand.base),
+        },
+        numbers: fields_of_numbers(operands).map(|field| field.map_or(0, |field| record[field])),
+    })
+}
+
+/// What sameness asks of an operand's name.
+struct OperandName {
+    base: usize,
+    field: Option<usize>,
+    is_disp8_sp: bool,
+}
+
+/// By the operand's number.
+fn operand_names() -> &'static [OperandName] {
+    static NAMES: OnceLock<Vec<OperandName>> = OnceLock::new();
+    NAMES.get_or_init(|| oracle::OPERAND_NAMES.iter().map(|name| operand_name(name)).collect())
+}
+
+fn operand_name(name: &str) -> OperandName {
+    let base = oracle::OPERAND_NAMES.iter().position(|other| *other == base(name));
+    OperandName { base: base.expect("a base is a name"), field: field_of_number(name), is_disp8_sp: name == "Disp8_SP" }
+}
+
+/// Base and number count for displacements on A0, A1 and SB, however many bytes the number has; any other name for itself.
+fn base(name: &str) -> &str {
+    match name {
+        "Deref_A0" | "Disp8_A0" => "Disp16_A0",
+        "Deref_A1" | "Disp8_A1" => "Disp16_A1",
+        "Disp8_SB" => "Disp16_SB",
+        _ => name,
+    }
+}
+
+/// The field that holds an operand's number, if its name has one.
+fn field_of_number(name: &str) -> Option<usize> {
+    let begins = |prefixes: &[&str]| prefixes.iter().any(|prefix| name.starts_with(prefix));
+    if name == "Disp8" || begins(&["Imm", "Abs20", "Disp20_"]) {
+        Some(IMM_WIDE)
+    } else if begins(&["Disp8_", "Disp16_", "Abs16"]) || begins(&["Bit_"]) && !begins(&["Bit_Deref_"]) {
+        Some(DISPABS)
+    } else {
+        None
+    }
+}
+
+/// If operands 0 and 1 both need `dispabs`, one of them has its number in `first`.
+fn fields_of_numbers(operands: [&OperandName; 3]) -> [Option<usize>; 3] {
+    let mut fields = operands.map(|operand| operand.field);
+    if fields[0] == Some(DISPABS) && fields[1] == Some(DISPABS) {
+        let early = if operands[0].is_disp8_sp { 1 } else { 0 };
+        fields[early] = Some(FIRST);
+    }
+    fields
+}
+
+// ---- Marks
+
+/// Whether a code's row is starred, in the rules or by what docs/DIFFERENCES.md reports. Of a refused code it says nothing.
+pub fn marked(first: u8, second: u8) -> bool {
+    let (h, n) = (second >> 4, second & 0xF);
+    match first {
+        0x74 | 0x75 => h == 3,
+        0x76 | 0x77 => matches!(h, 9 | 0xC | 0xE),
+        0x7A => h >= 8,
+        0x7C if matches!(h, 1 | 2 | 9 | 0xA) => !matches!(n, 0 | 4 | 5),
+        0x7C => matches!(h, 4 | 5 | 0xC),
+        0x7D => matches!(h, 2 | 3 | 4 | 5 | 0xA | 0xB) || h == 0xD && matches!(n, 0xA | 0xD | 0xE),
+        0xEB if h < 8 => matches!(n, 4 | 5) || h >= 4 && n == 1 || h >= 6 && n >= 8,
+        _ => false,
+    }
+}
+
+// ---- Strings
+
+/// The bytes of a whole instruction. Their order is the encoder's: shorter first, then byte order.
+#[derive(Clone, Copy, PartialEq, Eq, PartialOrd, Ord)]
+pub struct Spelling {
+    length: usize,
+    bytes: [u8; LONGEST],
+}
+
+impl Spelling {
+    pub fn of(string: &[u8]) -> Spelling {
+        let mut bytes = [0; LONGEST];
+        bytes[..string.len()].copy_from_slice(string);
+        Spelling { length: string.len(), bytes }
+    }
+
+    pub fn bytes(&self) -> &[u8] {
+        &self.bytes[..self.length]
+    }
+
+    fn with(mut self, place: usize, byte: u8) -> Spelling {
+        self.bytes[place] = byte;
+        self
+    }
+
+    /// What the Rust decodes the whole string to. `first`, which the Rust does not have, is the port's.
+    fn key(&self) -> Option<Key> {
+        let mut answer = expected(self.bytes());
+        if answer.refusal != 0 || answer.fields[TAKEN] as usize != self.length {
+            return None;
+        }
+        answer.fields[FIRST] = ported(self.bytes(), 0).fields[FIRST];
+        key_of(&answer.fields)
+    }
+
+    fn names(&self) -> Option<Names> {
+        Some(self.key()?.names)
+    }
+}
+
+// ---- The search
+
+/// A string of the Rust's, and which of its bytes are those of a number.
+struct Form {
+    spelling: Spelling,
+    holes: Vec<Hole>,
+}
+
+/// The place of a byte of an operand's number, and how far up in the number it stands.
+struct Hole {
+    place: usize,
+    operand: usize,
+    shift: u32,
+}
+
+impl Form {
+    fn filled(&self, numbers: &[u32; 3]) -> Spelling {
+        let byte_of = |hole: &Hole| (numbers[hole.operand] >> hole.shift) as u8;
+        self.holes.iter().fold(self.spelling, |spelling, hole| spelling.with(hole.place, byte_of(hole)))
+    }
+}
+
+/// The forms of a code. A byte behind it that changes what is named is a condition, and each of its values is a form.
+fn forms_of(first: u8, second: u8) -> Vec<Form> {
+    let zeros = [first, second, 0, 0, 0, 0, 0];
+    let answer = expected(&zeros);
+    if answer.refusal != 0 || marked(first, second) {
+        return Vec::new();
+    }
+    let plain = Spelling::of(&zeros[..answer.fields[TAKEN] as usize]);
+    let names = plain.names();
+    let is_condition = |place: &usize| (0..=255).any(|byte| plain.with(*place, byte).names() != names);
+    let (conditions, numbers): (Vec<usize>, Vec<usize>) = (2..plain.length).partition(is_condition);
+    let spellings: Vec<Spelling> = match conditions[..] {
+        [] => vec![plain],
+        [place] => (0..=255).map(|byte| plain.with(place, byte)).collect(),
+        _ => panic!("two conditions behind {first:02X} {second:02X}"),
+    };
+    let holes = |spelling: Spelling| numbers.iter().map(|place| hole(spelling, *place)).collect();
+    let accepted = spellings.into_iter().filter(|spelling| spelling.names().is_some());
+    accepted.map(|spelling| Form { spelling, holes: holes(spelling) }).collect()
+}
+
+/// Which number a byte belongs to: the one that changes with it.
+fn hole(spelling: Spelling, place: usize) -> Hole {
+    let numbers = |spelling: Spelling| spelling.key().expect("a number's byte changes no name").numbers;
+    let (without, with) = (numbers(spelling), numbers(spelling.with(place, 1)));
+    let operand = (0..3).find(|k| without[*k] != with[*k]).expect("a byte is for something");
+    Hole { place, operand, shift: (without[operand] ^ with[operand]).trailing_zeros() }
+}
+
+fn forms() -> &'static HashMap<Names, Vec<Form>> {
+    static FORMS: OnceLock<HashMap<Names, Vec<Form>>> = OnceLock::new();
+    FORMS.get_or_init(|| {
+        let mut forms: HashMap<Names, Vec<Form>> = HashMap::new();
+        for number in 0..CODES {
+            let (first, second) = code_of(number);
+            for form in forms_of(first, second) {
+                let names = form.spelling.names().expect("a form is accepted");
+                forms.entry(names).or_default().push(form);
+            }
+        }
+        forms
+    })
+}
+
+/// The best bytes for a record, if there are any.
+pub fn encode(record: &Record) -> Option<Spelling> {
+    let key = key_of(record)?;
+    let candidates = forms().get(&key.names)?.iter().map(|form| form.filled(&key.numbers));
+    candidates.filter(|spelling| spelling.key().as_ref() == Some(&key)).min()
+}

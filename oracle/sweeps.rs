@@ -1,0 +1,153 @@
+// The sweep's part of the differential run: the port's `m16c_sweep` beside the Rust asked again and again.
+
+use crate::{expected, hex, Kind, Random, Tally, TAKEN, TOO_LITTLE_ROOM};
+
+extern "C" {
+    fn m16c_sweep(
+        image: *const u8,
+        image_len: usize,
+        starts: *mut u16,
+        starts_len: usize,
+        count: *mut usize,
+        place: *mut usize,
+    ) -> u32;
+}
+
+const LONGEST_IMAGE: usize = 4096;
+const IMAGE_TOO_LONG: u32 = 7;
+
+#[rustfmt::skip]
+pub const KINDS: &[Kind] = &[
+    Kind { name: "the rules' image, and its cuts", quick_parts: 1, all_parts: 1, run_part: image_of_the_rules },
+    Kind { name: "the stored strings, each and one behind the other", quick_parts: 1, all_parts: 1, run_part: stored_images },
+    Kind { name: "images of instructions, one byte damaged or none", quick_parts: 100, all_parts: 1000, run_part: images_of_instructions },
+    Kind { name: "images at random", quick_parts: 100, all_parts: 1000, run_part: random_images },
+    Kind { name: "images about as long as may be, and longer", quick_parts: 50, all_parts: 500, run_part: long_images },
+];
+
+const IMAGES_IN_A_PART: usize = 20;
+
+// ---- What is compared
+
+#[derive(PartialEq, Eq, Debug)]
+struct Swept {
+    refusal: u32,
+    count: usize,
+    place: usize,
+    starts: Vec<u16>,
+}
+
+// Stand in what is lent before each call. The start is one that no image has.
+const NO_START: u16 = 0xDEAD;
+const UNWRITTEN: usize = 0xDEAD_BEEF;
+
+fn repeated(image: &[u8], room: usize) -> Swept {
+    let mut swept = Swept { refusal: 0, count: 0, place: 0, starts: vec![NO_START; room] };
+    if image.len() > LONGEST_IMAGE {
+        return Swept { refusal: IMAGE_TOO_LONG, ..swept };
+    }
+    if room < image.len() {
+        return Swept { refusal: TOO_LITTLE_ROOM, ..swept };
+    }
+    while swept.place < image.len() {
+        let rust = expected(&image[swept.place..]);
+        if rust.refusal != 0 {
+            return Swept { refusal: rust.refusal, ..swept };
+        }
+        swept.starts[swept.count] = swept.place as u16;
+        swept.count += 1;
+        swept.place += rust.fields[TAKEN] as usize;
+    }
+    swept
+}
+
+fn ported(image: &[u8], room: usize) -> Swept {
+    let mut swept = Swept { refusal: 0, count: UNWRITTEN, place: UNWRITTEN, starts: vec![NO_START; room] };
+    let starts = swept.starts.as_mut_ptr();
+    swept.refusal =
+        unsafe { m16c_sweep(image.as_ptr(), image.len(), starts, room, &mut swept.count, &mut swept.place) };
+    swept
+}
+
+/// With an entry for each byte, with more, and with too few.
+fn compare(tally: &mut Tally, image: &[u8]) {
+    let length = image.len();
+    for room in [length, length + 1, length + 7, length.saturating_sub(1), length / 2, 0] {
+        let (rust, port) = (repeated(image, room), ported(image, room));
+        tally.count(rust.refusal == 0, rust == port, || {
+            format!("room for {room} starts, image {}\n  Rust {rust:X?}\n  port {port:X?}\n", hex(image))
+        });
+    }
+}
+
+// ---- The kinds of images
+
+fn image_of_the_rules(_part: usize, tally: &mut Tally) {
+    const IMAGE: [u8; 14] = [0x74, 0x0F, 0x34, 0x12, 0x89, 0x67, 0xF5, 0x7D, 0xC8, 0x05, 0xEB, 0xC5, 0x7E, 0xE0];
+    for length in 0..=IMAGE.len() {
+        compare(tally, &IMAGE[..length]);
+    }
+}
+
+fn stored_images(_part: usize, tally: &mut Tally) {
+    let stored = include_str!("../crates/replay/stdin").lines().map(stored_bytes);
+    let mut together = Vec::new();
+    for string in stored {
+        compare(tally, &string);
+        if together.len() + string.len() > LONGEST_IMAGE {
+            compare(tally, &together);
+            together.clear();
+        }
+        // A refused string would end every sweep here.
+        if expected(&string).refusal == 0 {
+            together.extend(string);
+        }
+    }
+    compare(tally, &together);
+}
+
+/// A stored line begins with how many bytes were given, a blank, and the bytes.
+fn stored_bytes(line: &str) -> Vec<u8> {
+    let count = usize::from(line.as_bytes()[0] - b'0');
+    (0..count).map(|k| u8::from_str_radix(&line[2 + 2 * k..4 + 2 * k], 16).expect("stored bytes are hex")).collect()
+}
+
+fn images_of_instructions(part: usize, tally: &mut Tally) {
+    let mut random = Random::of("images of instructions", part);
+    for _ in 0..IMAGES_IN_A_PART {
+        let length = random.below(200);
+        let mut image = instructions(length, &mut random);
+        if random.below(2) == 0 && !image.is_empty() {
+            let place = random.below(image.len());
+            image[place] = random.byte();
+        }
+        compare(tally, &image);
+    }
+}
+
+/// Whole instructions, at least this many bytes.
+fn instructions(length: usize, random: &mut Random) -> Vec<u8> {
+    let mut image = Vec::new();
+    while image.len() < length {
+        image.extend(random.accepted_string());
+    }
+    image
+}
+
+fn random_images(part: usize, tally: &mut Tally) {
+    let mut random = Random::of("images at random", part);
+    for _ in 0..IMAGES_IN_A_PART {
+        let length = random.below(200);
+        compare(tally, &random.code(length));
+    }
+}
+
+/// Cut at random, so that most end in the midst of an instruction; of each part one image as long as may be, and one a byte longer.
+fn long_images(part: usize, tally: &mut Tally) {
+    let mut random = Random::of("long images", part);
+    let image = instructions(LONGEST_IMAGE + 200, &mut random);
+    let at_random = LONGEST_IMAGE - 100 + random.below(200);
+    for length in [LONGEST_IMAGE - 1, LONGEST_IMAGE, LONGEST_IMAGE + 1, at_random] {
+        compare(tally, &image[..length]);
+    }
+}
