@@ -7,57 +7,145 @@ use std::hint::black_box;
 use std::process::ExitCode;
 use std::time::Instant;
 
-use peer_call::{at_each, nothing, rust_decode, Record};
+use peer_call::{at_each, nothing_decoded, nothing_encoded, rust_decode, Record};
 use peer_loop::rust_decode_at_each;
+use peer_sweep_call::rust_sweep as rust_sweep_call;
+use peer_sweep_loop::rust_sweep as rust_sweep_loop;
 
 const FIRST_BYTES: [u8; 12] = [0x74, 0x75, 0x76, 0x77, 0x78, 0x79, 0x7A, 0x7B, 0x7C, 0x7D, 0x7E, 0xEB];
 const IMAGE_INSTRUCTIONS: usize = 4000;
 const LONGEST: usize = 7;
 const SEED: u64 = 0x9E37_79B9_7F4A_7C15;
 
+const LONGEST_SWEPT: usize = 4096;
+// Numbers of a record that the Rust does not have.
+const FIRST: usize = 9;
+const MARKED: usize = 11;
+
 type Decode = unsafe extern "C" fn(*const u8, usize, usize, *mut u32, usize) -> u32;
+type Encode = unsafe extern "C" fn(*const u32, usize, *mut u8, usize, usize, *mut usize) -> u32;
+type Sweep = unsafe extern "C" fn(*const u8, usize, *mut u16, usize, *mut usize, *mut usize) -> u32;
 
 extern "C" {
     fn m16c_decode(image: *const u8, image_len: usize, at: usize, out: *mut u32, out_len: usize) -> u32;
+    fn m16c_encode(
+        record: *const u32,
+        record_len: usize,
+        buf: *mut u8,
+        buf_len: usize,
+        place: usize,
+        length: *mut usize,
+    ) -> u32;
+    fn m16c_sweep(
+        image: *const u8,
+        image_len: usize,
+        starts: *mut u16,
+        starts_len: usize,
+        count: *mut usize,
+        place: *mut usize,
+    ) -> u32;
     fn syscall(number: i64, first: i64, ...) -> i64;
 }
 
-/// Code, and the places in it where the measured work is done.
+/// Code, the places in it where the measured work is done, and the records that stand there.
 struct Workload {
     name: String,
     image: Vec<u8>,
     places: Vec<u32>,
+    records: Vec<Record>,
+    /// The image cut at places, as long as a sweep takes; none if the places leave something out.
+    pieces: Vec<Vec<u8>>,
 }
 
-/// One way of doing a task over a workload. bench/run takes `empty_loop` off the others of the task.
+/// What the measured work writes into.
+struct Out {
+    record: Record,
+    bytes: [u8; LONGEST],
+    length: usize,
+    starts: Vec<u16>,
+    count: usize,
+    stop: usize,
+}
+
+/// One way of doing a task over a workload. bench/run takes `empty_loop` off the others of the task, `decode_loop` off `decode`.
 struct Way {
     name: &'static str,
-    run: fn(&Workload, &mut Record),
+    run: fn(&Workload, &mut Out),
 }
 
 struct Task {
     name: &'static str,
+    /// Which records of a workload it is measured on, and whether only where they are the whole image.
+    takes: fn(&Record) -> bool,
+    whole_images: bool,
     ways: &'static [Way],
 }
 
 // Another task is another entry: its ways under the names that bench/run has columns for.
-const TASKS: &[Task] = &[Task {
-    name: "decode",
-    ways: &[
-        Way { name: "empty_loop", run: |work, record| at_each(&work.places, record, |_, _| ()) },
-        Way { name: "empty_call", run: |work, record| call_at_each(nothing, work, record) },
-        Way { name: "rattle", run: |work, record| call_at_each(m16c_decode, work, record) },
-        Way { name: "rust_call", run: |work, record| call_at_each(rust_decode, work, record) },
-        Way { name: "rust_loop", run: |work, record| rust_decode_at_each(&work.image, &work.places, record) },
-    ],
-}];
+const TASKS: &[Task] = &[
+    Task {
+        name: "decode",
+        takes: |_| true,
+        whole_images: false,
+        ways: &[
+            Way { name: "empty_loop", run: |work, out| at_each(places(work), &mut out.record, |_, _| ()) },
+            Way { name: "empty_call", run: |work, out| decode_each(nothing_decoded, work, out) },
+            Way { name: "rattle", run: |work, out| decode_each(m16c_decode, work, out) },
+            Way { name: "rust_call", run: |work, out| decode_each(rust_decode, work, out) },
+            Way { name: "rust_loop", run: |work, out| rust_decode_at_each(&work.image, &work.places, &mut out.record) },
+        ],
+    },
+    Task {
+        name: "encode",
+        takes: |record| record[MARKED] == 0,
+        whole_images: false,
+        ways: &[
+            Way { name: "empty_loop", run: |work, out| at_each(work.records.iter(), out, |_, _| ()) },
+            Way { name: "empty_call", run: |work, out| encode_each(nothing_encoded, work, out) },
+            Way { name: "rattle", run: |work, out| encode_each(m16c_encode, work, out) },
+            Way { name: "decode_loop", run: |work, out| at_each(places(work), &mut out.record, |_, _| ()) },
+            Way { name: "decode", run: |work, out| decode_each(m16c_decode, work, out) },
+        ],
+    },
+    Task {
+        name: "sweep",
+        takes: |_| true,
+        whole_images: true,
+        ways: &[
+            Way { name: "empty_loop", run: |work, out| at_each(work.pieces.iter(), out, |_, _| ()) },
+            Way { name: "rattle", run: |work, out| sweep_each(m16c_sweep, work, out) },
+            Way { name: "rust_call", run: |work, out| sweep_each(rust_sweep_call, work, out) },
+            Way { name: "rust_loop", run: |work, out| sweep_each(rust_sweep_loop, work, out) },
+        ],
+    },
+];
 
-// Always inlined, so that `decode` is a call to a known function, not through a pointer.
+fn places(work: &Workload) -> impl Iterator<Item = u32> + '_ {
+    work.places.iter().copied()
+}
+
+// The three below are always inlined, so that what they are given is a call to a known function, not through a pointer.
 #[inline(always)]
-fn call_at_each(decode: Decode, work: &Workload, record: &mut Record) {
+fn decode_each(decode: Decode, work: &Workload, out: &mut Out) {
     let image = work.image.as_slice();
-    at_each(&work.places, record, |place, record| {
-        unsafe { decode(image.as_ptr(), image.len(), place, record.as_mut_ptr(), record.len()) };
+    at_each(places(work), &mut out.record, |place, record| {
+        unsafe { decode(image.as_ptr(), image.len(), place as usize, record.as_mut_ptr(), record.len()) };
+    });
+}
+
+#[inline(always)]
+fn encode_each(encode: Encode, work: &Workload, out: &mut Out) {
+    at_each(work.records.iter(), out, |record, out| {
+        let (from, to) = (record.as_slice(), out.bytes.as_mut_slice());
+        unsafe { encode(from.as_ptr(), from.len(), to.as_mut_ptr(), to.len(), 0, &mut out.length) };
+    });
+}
+
+#[inline(always)]
+fn sweep_each(sweep: Sweep, work: &Workload, out: &mut Out) {
+    at_each(work.pieces.iter(), out, |piece, out| {
+        let (from, to) = (piece.as_ptr(), out.starts.as_mut_ptr());
+        unsafe { sweep(from, piece.len(), to, out.starts.len(), &mut out.count, &mut out.stop) };
     });
 }
 
@@ -76,9 +164,10 @@ fn main() -> ExitCode {
         return ExitCode::FAILURE;
     }
     for task in TASKS {
-        for work in &workloads {
+        for work in workloads.iter().filter(|work| !task.whole_images || !work.pieces.is_empty()) {
+            let work = only(work, task.takes);
             for way in task.ways {
-                measure(&format!("{}.{}.{}", task.name, work.name, way.name), way, work);
+                measure(&format!("{}.{}.{}", task.name, work.name, way.name), way, &work);
             }
         }
     }
@@ -112,16 +201,32 @@ fn codes_workload() -> Workload {
 fn only_first_byte(work: &Workload, first: u8) -> Workload {
     let starts_here = |place: &u32| work.image[*place as usize] == first;
     let places = work.places.iter().copied().filter(starts_here).collect();
-    Workload { name: format!("{first:02X}"), image: work.image.clone(), places }
+    workload(format!("{first:02X}"), work.image.clone(), places, Vec::new())
+}
+
+/// The same image, at the places whose records are wanted.
+fn only(work: &Workload, wanted: fn(&Record) -> bool) -> Workload {
+    let places = work.places.iter().zip(&work.records).filter(|(_, record)| wanted(record)).map(|(place, _)| *place);
+    workload(work.name.clone(), work.image.clone(), places.collect(), work.pieces.clone())
+}
+
+fn workload(name: String, image: Vec<u8>, places: Vec<u32>, pieces: Vec<Vec<u8>>) -> Workload {
+    let records = places.iter().map(|place| called(m16c_decode, &image, *place).1).collect();
+    Workload { name, image, places, records, pieces }
 }
 
 fn assemble(name: &str, codes: &[(u8, u8)], random: &mut Random) -> Workload {
-    let mut work = Workload { name: name.to_string(), image: Vec::new(), places: Vec::new() };
+    let (mut image, mut places, mut pieces) = (Vec::new(), Vec::new(), vec![Vec::new()]);
     for (first, second) in codes {
-        work.places.push(work.image.len() as u32);
-        work.image.extend(accepted_instruction(*first, *second, random));
+        let instruction = accepted_instruction(*first, *second, random);
+        places.push(image.len() as u32);
+        image.extend(&instruction);
+        if pieces[pieces.len() - 1].len() + instruction.len() > LONGEST_SWEPT {
+            pieces.push(Vec::new());
+        }
+        pieces.last_mut().expect("there is a piece").extend(&instruction);
     }
-    work
+    workload(name.to_string(), image, places, pieces)
 }
 
 // A tail of zeros is accepted wherever any tail is: it holds a condition that 7E takes.
@@ -166,30 +271,73 @@ impl Random {
     }
 }
 
-// A way that did less would be measured for less: all deliver the same, but for the two fields that the Rust has not.
+// A way that did less would be measured for less.
 fn check_same_work(work: &Workload) -> Result<(), String> {
-    const FIRST: usize = 9;
-    const MARKED: usize = 11;
-    for place in &work.places {
-        let mut rattle = called(m16c_decode, work, *place);
-        rattle.1[FIRST] = 0;
-        rattle.1[MARKED] = 0;
-        let rust_call = called(rust_decode, work, *place);
-        let mut rust_loop = [0; 12];
-        rust_decode_at_each(&work.image, &[*place], &mut rust_loop);
-        if rattle != rust_call || rust_loop != rust_call.1 {
-            let answers = format!("rattle {rattle:?}\nrust, call {rust_call:?}\nrust, loop {rust_loop:?}");
-            return Err(format!("different answers at place {place} of workload {}\n{answers}", work.name));
-        }
+    work.places.iter().try_for_each(|place| check_decoding(work, *place))?;
+    work.records.iter().try_for_each(|record| check_encoding(record))?;
+    work.pieces.iter().try_for_each(|piece| check_sweeping(piece))
+}
+
+/// All deliver the same, but for the two numbers that the Rust has not.
+fn check_decoding(work: &Workload, place: u32) -> Result<(), String> {
+    let mut rattle = called(m16c_decode, &work.image, place);
+    rattle.1[FIRST] = 0;
+    rattle.1[MARKED] = 0;
+    let rust_call = called(rust_decode, &work.image, place);
+    let mut rust_loop = [0; 12];
+    rust_decode_at_each(&work.image, &[place], &mut rust_loop);
+    if rattle != rust_call || rust_loop != rust_call.1 {
+        let answers = format!("rattle {rattle:?}\nrust, call {rust_call:?}\nrust, loop {rust_loop:?}");
+        return Err(format!("different answers at place {place} of workload {}\n{answers}", work.name));
     }
     Ok(())
 }
 
-fn called(decode: Decode, work: &Workload, place: u32) -> (u32, Record) {
+/// An unmarked record is encoded, in no more bytes than it had, which decode to an instruction of the same name.
+fn check_encoding(record: &Record) -> Result<(), String> {
+    const OPCODE_TO_WIDTH: std::ops::RangeInclusive<usize> = 1..=3;
+    const LENGTH: usize = 10;
+    let (mut bytes, mut length) = ([0; LONGEST], 0);
+    let refusal =
+        unsafe { m16c_encode(record.as_ptr(), record.len(), bytes.as_mut_ptr(), bytes.len(), 0, &mut length) };
+    let back = called(m16c_decode, &bytes, 0).1;
+    let good = refusal == 0
+        && length <= record[LENGTH] as usize
+        && back[LENGTH] as usize == length
+        && back[OPCODE_TO_WIDTH] == record[OPCODE_TO_WIDTH];
+    if record[MARKED] == 0 && !good {
+        return Err(format!("{record:X?} is encoded as {refusal}, {length} bytes, {bytes:X?}"));
+    }
+    Ok(())
+}
+
+/// All sweep a piece to its end, over the same starts.
+fn check_sweeping(piece: &[u8]) -> Result<(), String> {
+    let rattle = swept(m16c_sweep, piece);
+    let rust = [rust_sweep_call, rust_sweep_loop].map(|sweep| swept(sweep, piece));
+    let (refusal, _, stop, _) = rattle;
+    if rust.iter().any(|rust| *rust != rattle) || refusal != 0 || stop != piece.len() {
+        return Err(format!("different sweeps of {piece:X?}\nrattle {rattle:?}\nrust {rust:?}"));
+    }
+    Ok(())
+}
+
+fn swept(sweep: Sweep, piece: &[u8]) -> (u32, usize, usize, Vec<u16>) {
+    let (mut count, mut stop, mut starts) = (0, 0, vec![u16::MAX; piece.len()]);
+    let refusal =
+        unsafe { sweep(piece.as_ptr(), piece.len(), starts.as_mut_ptr(), starts.len(), &mut count, &mut stop) };
+    (refusal, count, stop, starts)
+}
+
+fn called(decode: Decode, image: &[u8], place: u32) -> (u32, Record) {
     let mut record = [u32::MAX; 12];
-    let (image, out) = (work.image.as_slice(), record.as_mut_slice());
+    let out = record.as_mut_slice();
     let refusal = unsafe { decode(image.as_ptr(), image.len(), place as usize, out.as_mut_ptr(), out.len()) };
     (refusal, record)
+}
+
+fn new_out() -> Out {
+    Out { record: [0; 12], bytes: [0; LONGEST], length: 0, starts: vec![0; LONGEST_SWEPT], count: 0, stop: 0 }
 }
 
 // The plugin's marks are system calls that no kernel has; without the plugin they do nothing.
@@ -198,23 +346,23 @@ const END_MARK: i64 = 0xBE7C02;
 
 // The first run is not counted: it binds the functions that are called.
 fn count(label: &str, way: &Way, work: &Workload) {
-    let mut record = [0; 12];
+    let mut out = new_out();
     let mut text = [0; 32];
     text[..label.len()].copy_from_slice(label.as_bytes());
     let word = |k: usize| i64::from_le_bytes(text[8 * k..8 * k + 8].try_into().unwrap());
-    (way.run)(work, &mut record);
+    (way.run)(work, &mut out);
     unsafe { syscall(BEGIN_MARK, 0) };
-    (way.run)(work, &mut record);
+    (way.run)(work, &mut out);
     unsafe { syscall(END_MARK, work.places.len() as i64, word(0), word(1), word(2), word(3)) };
 }
 
 // The best of many runs is the one that was disturbed least.
 fn time(label: &str, way: &Way, work: &Workload) {
     const RUNS: usize = 300;
-    let mut record = [0; 12];
+    let mut out = new_out();
     let mut run = || {
         let start = Instant::now();
-        (way.run)(black_box(work), &mut record);
+        (way.run)(black_box(work), &mut out);
         start.elapsed().as_nanos()
     };
     let best = (0..RUNS).map(|_| run()).min().unwrap_or(0);

@@ -75,12 +75,68 @@ pub unsafe extern "C" fn rust_decode(
 #[inline(never)]
 pub fn rust_decode_at_each(image: &[u8], places: &[u32], record: &mut crate::Record) {
     crate::at_each(
-        places,
+        places.iter().copied(),
         record,
         // Left alone, the compiler makes a function of this much code and calls it.
         #[inline(always)]
         |place, record| {
-            deliver(image, place, record);
+            deliver(image, place as usize, record);
         },
     );
+}
+
+const LONGEST_IMAGE: usize = 4096;
+const IMAGE_TOO_LONG: u32 = 7;
+
+/// The parameters and the answer of the port's `m16c_sweep`.
+///
+/// # Safety
+/// `image` has `image_len` bytes to read, `starts` has `starts_len` numbers to write, `count` and `place` are to be written.
+#[cfg(any(peer = "sweep_call", peer = "sweep_loop"))]
+#[inline(never)]
+pub unsafe extern "C" fn rust_sweep(
+    image: *const u8,
+    image_len: usize,
+    starts: *mut u16,
+    starts_len: usize,
+    count: *mut usize,
+    place: *mut usize,
+) -> u32 {
+    let image = core::slice::from_raw_parts(image, image_len);
+    let (refusal, starts_kept, stop) = repeat(image, core::slice::from_raw_parts_mut(starts, starts_len));
+    *count = starts_kept;
+    *place = stop;
+    refusal
+}
+
+// The refusal, the count and the stopping place.
+#[inline(always)]
+fn repeat(image: &[u8], starts: &mut [u16]) -> (u32, usize, usize) {
+    if image.len() > LONGEST_IMAGE {
+        return (IMAGE_TOO_LONG, 0, 0);
+    }
+    if starts.len() < image.len() {
+        return (TOO_LITTLE_ROOM, 0, 0);
+    }
+    let (mut count, mut place) = (0, 0);
+    while place < image.len() {
+        let mut inst = fresh();
+        let (refusal, taken) = decode_once(&image[place..], &mut inst);
+        if refusal != ACCEPTED {
+            return (u32::from(refusal), count, place);
+        }
+        starts[count] = place as u16;
+        count += 1;
+        place += taken;
+    }
+    (u32::from(ACCEPTED), count, place)
+}
+
+// In the loop the compiler may drop what a sweep has no use for; behind a call the whole record is made, as the port's is.
+#[cfg_attr(peer = "sweep_call", inline(never))]
+#[cfg_attr(not(peer = "sweep_call"), inline(always))]
+fn decode_once(bytes: &[u8], inst: &mut Instruction) -> (u8, usize) {
+    let mut reader = CountingReader { bytes, taken: 0 };
+    let refusal = decode_counted(inst, &mut reader).err().unwrap_or(ACCEPTED);
+    (refusal, reader.taken)
 }

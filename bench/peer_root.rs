@@ -8,23 +8,44 @@ mod given;
 pub use given::rust_decode;
 #[cfg(peer = "loop")]
 pub use given::rust_decode_at_each;
+#[cfg(any(peer = "sweep_call", peer = "sweep_loop"))]
+pub use given::rust_sweep;
 
 use core::hint::black_box;
 
 /// How an instruction is delivered: taken, opcode, size, width, three operands, imm_wide, dispabs, first, length, marked.
 pub type Record = [u32; 12];
 
-/// The loop of every measurement. The boxes keep the compiler from working ahead, and from dropping a record that nobody reads.
+/// The loop of every measurement. The boxes keep the compiler from working ahead, and from dropping what nobody reads.
 #[inline(always)]
-pub fn at_each(places: &[u32], record: &mut Record, mut decode: impl FnMut(usize, &mut Record)) {
-    for place in places {
-        decode(black_box(*place) as usize, record);
-        black_box(&mut *record);
+pub fn at_each<Item, Out>(items: impl Iterator<Item = Item>, out: &mut Out, mut work: impl FnMut(Item, &mut Out)) {
+    for item in items {
+        work(black_box(item), out);
+        black_box(&mut *out);
     }
 }
 
-/// A call that does no work. It stands outside of the program, where the compiler would not pass what nobody uses.
+// Calls that do no work. They stand outside of the program, where the compiler would not pass what nobody uses.
+
 #[inline(never)]
-pub extern "C" fn nothing(_image: *const u8, _image_len: usize, _at: usize, _out: *mut u32, _out_len: usize) -> u32 {
+pub extern "C" fn nothing_decoded(
+    _image: *const u8,
+    _image_len: usize,
+    _at: usize,
+    _out: *mut u32,
+    _out_len: usize,
+) -> u32 {
+    0
+}
+
+#[inline(never)]
+pub extern "C" fn nothing_encoded(
+    _record: *const u32,
+    _record_len: usize,
+    _buf: *mut u8,
+    _buf_len: usize,
+    _place: usize,
+    _length: *mut usize,
+) -> u32 {
     0
 }
