@@ -2,7 +2,7 @@
 # They set `me`, their name in messages, and `repo`, the root of the repository, before.
 # The environment may set
 #   BENCH_ROOT     a folder to keep downloads in (default target/bench/root, which `rt ci` removes)
-#   M16C_LIBRARY   an archive to take as the port, instead of building target/staticlib/libm16c.a
+#   M16C_LIBRARY   an archive to take as the port, instead of building target/library/libm16c.a
 
 machine=$(uname -m)
 work=$repo/target/bench
@@ -27,9 +27,12 @@ find_kit() {
     [ -x "$tools/bin/ld.lld" ] || fail "the Rattle kit at $kit has no toolchain for $machine"
 }
 
-# Sets `library`, which has the functions that both programs call. The kit to build with may be named; default: the one that rt belongs to.
+# The crates of the port's functions for C. Each makes an archive of its own: docs/DECISIONS.md says why.
+c_crates="m16c m16c_encode m16c_sweep"
+
+# Sets `library`, which has the functions that both programs call.
 build_library() {
-    find_or_make_library "$@"
+    find_or_make_library
     for function in m16c_decode m16c_encode m16c_sweep; do
         grep -q "$function" "$library" || fail "the library has no function $function: $library"
     done
@@ -41,13 +44,35 @@ find_or_make_library() {
         [ -r "$library" ] || fail "M16C_LIBRARY: no such archive: $library"
         return
     fi
-    library=$repo/target/staticlib/libm16c.a
-    echo "$me: rt staticlib m16c (minutes, if the crates are not proved yet)" >&2
-    (cd "$repo" && RATTLE_HOME=${1:-$kit} rt staticlib m16c) >"$work/rt.log" 2>&1 || {
+    for crate in $c_crates; do
+        make_archive "$crate" "$kit"
+    done
+    merge_archives
+}
+
+# Builds a crate's archive with a kit.
+make_archive() {
+    echo "$me: rt staticlib $1 (minutes, if the crates are not proved yet)" >&2
+    (cd "$repo" && RATTLE_HOME=$2 rt staticlib "$1") >"$work/rt.log" 2>&1 || {
         cat "$work/rt.log" >&2
-        printf '%s: rt staticlib m16c failed\n' "$me" >&2
+        printf '%s: rt staticlib %s failed\n' "$me" "$1" >&2
         exit 1
     }
+}
+
+# Sets `library`: all their objects in one archive, each with its crate's name. Paths are relative, since llvm-ar's script has no quotes.
+merge_archives() {
+    library=$repo/target/library/libm16c.a
+    mkdir -p "$repo/target/library"
+    (
+        cd "$repo/target"
+        {
+            echo create library/libm16c.a
+            for crate in $c_crates; do echo "addlib staticlib/lib$crate.a"; done
+            echo save
+            echo end
+        } | "$tools/bin/llvm-ar" -M
+    ) || fail "merging the archives failed"
 }
 
 # Sets `root` and `root_libs`: Debian's Rust and qemu-user, fetched if they are not there.
