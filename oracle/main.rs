@@ -1,5 +1,6 @@
 // The oracle on the command line: answers hex lines from standard input, or prints the stored list or the odd records.
 
+mod images;
 mod odd;
 mod stored;
 
@@ -26,7 +27,7 @@ fn run() -> Result<(), String> {
     let options: Vec<OsString> = env::args_os().skip(1).collect();
     match options.as_slice() {
         [] => answer_lines(io::stdin().lock()),
-        [option] if option == "--stored" => print(&stored::list()),
+        [option] if option == "--stored" => print(&stored::list()?),
         [option] if option == "--odd" => print(&odd::list()?),
         _ => Err(USAGE.to_string()),
     }

@@ -5,6 +5,8 @@ use std::fmt::Write;
 
 use oracle::answer;
 
+use crate::{images, odd};
+
 const MOST_BYTES: usize = 8;
 
 // The two tails of the whole strings. No position has the same byte in both, and no byte stands twice in a tail except zero;
@@ -22,8 +24,22 @@ const BEFORE_CONDITION: [u8; 2] = [0x90, 0x7F];
 const BENCH_LINES: [&[u8]; 4] =
     [&[0x74, 0x7E, 0xFF, 0x00], &[0x74, 0x7A, 0xFF], &[0x74, 0x7E, 0x00, 0x01], &[0x7D, 0x0C, 0x10, 0x00, 0x00]];
 
-pub fn list() -> String {
-    strings().iter().map(|bytes| stored_line(bytes)).collect()
+/// Strings to decode, then records to encode, then images to sweep.
+pub fn list() -> Result<String, String> {
+    let strings: Vec<Vec<u8>> = strings().into_iter().collect();
+    let decoded: String = strings.iter().map(|bytes| stored_line(bytes)).collect();
+    let encoded: String = odd::list()?.lines().map(encoded_line).collect();
+    Ok(decoded + &encoded + &images::list(&strings))
+}
+
+// An odd record's line at the width of the others.
+fn encoded_line(odd_record: &str) -> String {
+    let words: Vec<&str> = odd_record.split(' ').collect();
+    let (names, numbers) = words.split_at(6);
+    let [imm_wide, dispabs, first, answer @ ..] = numbers else {
+        unreachable!("an odd record has twelve words");
+    };
+    format!("E{} {} {}{} {}\n", names.concat(), imm_wide, dispabs, first, answer.join(" "))
 }
 
 // A set, so that no string comes twice whichever rule below chose it.

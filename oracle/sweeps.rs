@@ -90,7 +90,8 @@ fn image_of_the_rules(_part: usize, tally: &mut Tally) {
 }
 
 fn stored_images(_part: usize, tally: &mut Tally) {
-    let stored = include_str!("../crates/replay/stdin").lines().map(stored_bytes);
+    let is_string = |line: &&str| line.starts_with(|c: char| c.is_ascii_digit());
+    let stored = include_str!("../crates/replay/stdin").lines().filter(is_string).map(stored_bytes);
     let mut together = Vec::new();
     for string in stored {
         compare(tally, &string);

@@ -1,5 +1,6 @@
 -- Each public function's promise leaves one outcome.
 -- Assumes nothing.
+use Prim.Native.Nat.{ℕ}
 use Rattle.tests.specs.Outcome.{OneOutcome}
 use Rattle.tests.proofs.Outcome.{one-outcome}
 use Rattle.record.specs.declared.Opcode.{Opcode}

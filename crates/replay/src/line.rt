@@ -23,7 +23,7 @@ fn form_at(k: usize) -> u8
     form[k]
 }
 
-fn fits(form: u8, c: u8) -> bool
+pub(crate) fn fits(form: u8, c: u8) -> bool
     ensures { λ r. ⌜ r ≡ fitsAt form c ⌝ }
 {
     if form == b'#' {

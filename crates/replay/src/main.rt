@@ -1,8 +1,11 @@
-// Replays the stored list of answers: decodes the bytes of each line of its input and compares the answer with the line's.
+// Replays the stored list of answers: decodes, encodes or sweeps what each line of its input gives, and compares.
 // Its last line of output counts the answers compared, those that differ and, if there are any, the malformed lines.
+mod encoding;
+mod form;
 mod hex;
 mod line;
 mod numbers;
+mod sweeping;
 mod tally;
 
 ghost use Prim.Native.Nat.{_≤_, _<_};
@@ -19,9 +22,23 @@ struct Step {
     goes_on: bool,
 }
 
+// A line's first character says what it holds: E a record to encode, S an image to sweep, a digit bytes to decode.
+fn judge(line: &[u8]) -> Verdict {
+    if line.len() == 0 {
+        return Verdict::Malformed;
+    }
+    if line[0] == b'E' {
+        return encoding::judge(line);
+    }
+    if line[0] == b'S' {
+        return sweeping::judge(line);
+    }
+    line::judge(line)
+}
+
 // The first line that differs is written when it is met, so that no later step has to keep it.
 fn replay_line(line: &[u8], t: Tally) -> Tally {
-    match line::judge(line) {
+    match judge(line) {
         Verdict::Agrees => t.agreed(),
         Verdict::Differs => {
             if t.differ == 0 {
