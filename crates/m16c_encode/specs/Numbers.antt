@@ -10,11 +10,11 @@ use Rattle.record.specs.Names.{opcodes, opcodeAt, sizes, sizeAt, widths, widthA
 use Rattle.shortest.specs.Choose.{encoded}
 use Rattle.shortest.specs.Says.{Found, none}
 
--- the number at a place is one of the first so many
+-- the number at a place is below a bound
 abbrev pub below : List ℕ → ℕ → ℕ → Bool
 below ns k bound = ltb (getD ns k 0) bound
 
--- enough numbers, each that names something naming it, and displacements of two bytes
+-- enough numbers, names that are in their lists, displacements of two bytes
 unfoldable pub valid : List ℕ → Bool
 valid ns =
     both (leb 12 (length ns))

@@ -1,5 +1,5 @@
 pub mod Apart
-pub mod Unnamed
+pub mod Ends
 pub mod Arms
 pub mod Same
 pub mod Outcomes

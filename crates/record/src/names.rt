@@ -1,4 +1,5 @@
-// The name of each number; a number too large names what the blank record holds.
+// The name of each number; a number too large names what the blank record holds. That is tested before the match, so that behind a
+// caller's own test nothing is left of either: the number is the name.
 ghost use mathlib.Core.Path.{_≡_};
 ghost use Rattle.record.specs.Names.{opcodeAt, sizeAt, widthAt, operandAt};
 use crate::Opcode;
@@ -9,6 +10,9 @@ use crate::Width;
 pub fn opcode_at(n: u32) -> Opcode
     ensures { λ r. ⌜ r ≡ opcodeAt n ⌝ }
 {
+    if 97 < n {
+        return Opcode::NOP;
+    }
     match n {
         0 => Opcode::NOP,
         1 => Opcode::ABS,
@@ -107,37 +111,43 @@ pub fn opcode_at(n: u32) -> Opcode
         94 => Opcode::TST,
         95 => Opcode::WAIT,
         96 => Opcode::XCHG,
-        97 => Opcode::XOR,
-        _ => Opcode::NOP,
+        _ => Opcode::XOR,
     }
 }
 
 pub fn size_at(n: u32) -> Size
     ensures { λ r. ⌜ r ≡ sizeAt n ⌝ }
 {
+    if 3 < n {
+        return Size::None;
+    }
     match n {
         0 => Size::None,
         1 => Size::B,
         2 => Size::W,
-        3 => Size::L,
-        _ => Size::None,
+        _ => Size::L,
     }
 }
 
 pub fn width_at(n: u32) -> Width
     ensures { λ r. ⌜ r ≡ widthAt n ⌝ }
 {
+    if 2 < n {
+        return Width::None;
+    }
     match n {
         0 => Width::None,
         1 => Width::B,
-        2 => Width::W,
-        _ => Width::None,
+        _ => Width::W,
     }
 }
 
 pub fn operand_at(n: u32) -> Operand
     ensures { λ r. ⌜ r ≡ operandAt n ⌝ }
 {
+    if 56 < n {
+        return Operand::Nothing;
+    }
     match n {
         0 => Operand::Nothing,
         1 => Operand::Imm4,
@@ -195,7 +205,6 @@ pub fn operand_at(n: u32) -> Operand
         53 => Operand::ISP,
         54 => Operand::SP,
         55 => Operand::SB,
-        56 => Operand::FB,
-        _ => Operand::Nothing,
+        _ => Operand::FB,
     }
 }
