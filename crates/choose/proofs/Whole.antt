@@ -1,4 +1,4 @@
--- The tests of `whole`, one after another, and what a number in imm_wide decides.
+-- The tests of `whole`, one after another.
 -- Assumes nothing.
 use mathlib.Core.Path.{_≡_, refl}
 use mathlib.Core.Logic.{_≢_}

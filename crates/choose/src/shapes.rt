@@ -11,7 +11,7 @@ use record::Size;
 use record::Width;
 use shortest::Asked;
 
-// The second byte of a pair of first bytes, for words.
+// Which of a pair of first bytes: the second one is for words.
 fn word(w: Width) -> u8
     ensures { λ r. ⌜ (r ≡ choice.word w) × (r ≤ 1) ⌝ }
 {
