@@ -1,4 +1,5 @@
 pub mod Whole
 pub mod Placed
 pub mod OrImm
+pub mod SetBits
 pub mod Outcomes

@@ -15,5 +15,5 @@ on-field nowhere x y = refl
 on-field short x y = refl
 on-field early x y = refl
 
-pub or-imm : (x y : Choice) (q : Asked) {b : Bool} → isWide (fieldOf (q .base0)) ≡ b → coded (pick b x y) ≡ coded (orImm x y q)
-or-imm x y q e = ap (λ b. coded (pick b x y)) (sym e) ∙ ap coded (on-field (fieldOf (q .base0)) x y)
+pub or-imm : (x y : Choice) (q : Asked) {b : Bool} → isWide (fieldOf (q .op0)) ≡ b → coded (pick b x y) ≡ coded (orImm x y q)
+or-imm x y q e = ap (λ b. coded (pick b x y)) (sym e) ∙ ap coded (on-field (fieldOf (q .op0)) x y)

@@ -3,15 +3,20 @@
 use Rattle.tests.specs.Outcome.{OneOutcome}
 use Rattle.tests.proofs.Outcome.{one-outcome}
 use Rattle.record.specs.declared.Key.{Key}
+use Rattle.record.specs.declared.Opcode.{Opcode}
 use Rattle.record.specs.declared.Operand.{Operand}
 use Rattle.record.specs.declared.Width.{Width}
 use Rattle.record.specs.Same.{is, fieldOf}
+use Rattle.shortest.specs.declared.Asked.{Asked}
 use Rattle.shortest.specs.Choose as choice
 use Rattle.shortest.specs.Coarse.{whole}
 use Rattle.choose.specs.Coded.{coded, isWide}
 
-pub choose : (k : Key) → OneOutcome (coded (choice.choose k))
-choose k = one-outcome (coded (choice.choose k))
+pub choose : (o : Opcode) (q : Asked) → OneOutcome (coded (choice.chooseNamed o q))
+choose o q = one-outcome (coded (choice.chooseNamed o q))
+
+pub asked : (k : Key) → OneOutcome (choice.asked k)
+asked k = one-outcome (choice.asked k)
 
 pub same : (a b : Operand) → OneOutcome (is a b)
 same a b = one-outcome (is a b)

@@ -1,9 +1,13 @@
+// What the choice asks of a key.
 ghost use mathlib.Core.Path.{_≡_};
-ghost use Rattle.tests.specs.Choice.{pick};
+ghost use lib.Dec.{eqb};
+ghost use Rattle.tests.specs.Choice.{pick, both};
 ghost use Rattle.shortest.specs.Choose as choice;
 use crate::names;
 use record::Key;
+use record::Opcode;
 use record::Operand;
+use record::numbers;
 use shortest::Asked;
 
 fn by_number(zero: bool, small: bool, deref: Operand, disp8: Operand, disp16: Operand) -> Operand
@@ -57,7 +61,28 @@ fn whole_number(k: Key) -> u32
     }
 }
 
-pub(crate) fn asked(k: Key) -> Asked
+// The address of MOVA (62) and PUSHA (77) is a sum: there 0 is not dropped.
+fn drops_zero(o: Opcode) -> bool
+    ensures { λ r. ⌜ r ≡ choice.dropsZero o ⌝ }
+{
+    let n = numbers::opcode_number(o);
+    if n == 62 {
+        return false;
+    }
+    n != 77
+}
+
+fn zero_dropped(k: Key) -> bool
+    ensures { λ r. ⌜ r ≡ both (choice.dropsZero (k .opcode)) (eqb (k .number0) 0) ⌝ }
+{
+    let opcode = k.opcode;
+    if drops_zero(opcode) {
+        return k.number0 == 0;
+    }
+    false
+}
+
+pub fn asked(k: Key) -> Asked
     ensures { λ r. ⌜ r ≡ choice.asked k ⌝ }
 {
     let size = k.size;
@@ -67,11 +92,8 @@ pub(crate) fn asked(k: Key) -> Asked
     Asked {
         size,
         width,
-        base0,
-        base1,
-        near0: narrow(base0, k.number0 == 0, k.number0 < 256),
-        near1: narrow(base1, k.number1 == 0, k.number1 < 256),
-        far0: narrow(base0, false, k.number0 < 256),
+        op0: narrow(base0, zero_dropped(k), k.number0 < 256),
+        op1: narrow(base1, k.number1 == 0, k.number1 < 256),
         number: whole_number(k),
     }
 }

@@ -1,7 +1,9 @@
 // The direct choice of a code for what a record says: one clause an opcode.
 pub mod names; // what a name is, by its number
 mod codes; // the code of a name in each list
-mod asks; // what the choice asks of a key
+pub mod asks; // what the choice asks of a key
+mod sets; // the names that an opcode's rows have
+mod goes; // whether names go with an opcode
 mod shapes; // codes that several opcodes have in common
 mod single; // codes that one opcode has
 
@@ -9,11 +11,10 @@ ghost use mathlib.Core.Path.{_≡_};
 ghost use Rattle.shortest.specs.Choose as choice;
 ghost use Rattle.shortest.specs.Choose.{chooseBy};
 ghost use Rattle.choose.specs.Coded.{coded};
-use record::Key;
 use record::Opcode;
 use shortest::Asked;
 
-// The two bytes of a code. A name without a code makes the second more than a byte, or a code that cannot say the key; no code is 0, 0.
+// The two bytes of a code; no code is 0, 0.
 pub struct Code {
     pub first: u8,
     pub second: u64,
@@ -114,9 +115,12 @@ fn choose_by(o: Opcode, q: Asked) -> Code
     }
 }
 
-pub fn choose(k: Key) -> Code
-    ensures { λ r. ⌜ r ≡ coded (choice.choose k) ⌝ }
+// The code for what is asked, if these are names that the opcode has in an unmarked row.
+pub fn choose(o: Opcode, q: Asked) -> Code
+    ensures { λ r. ⌜ r ≡ coded (choice.chooseNamed o q) ⌝ }
 {
-    let opcode = k.opcode;
-    choose_by(opcode, asks::asked(k))
+    if goes::goes_with(o, q) {
+        return choose_by(o, q);
+    }
+    single::fixed(0, 0)
 }

@@ -40,10 +40,10 @@ pub(crate) fn unary(f: u8, h: u64, q: Asked) -> Code
     ensures { λ r. ⌜ r ≡ coded (choice.unary f h q) ⌝ }
 {
     let width = q.width;
-    let near0 = q.near0;
+    let op0 = q.op0;
     Code {
         first: f + word(width),
-        second: 16 * h + codes::code_g(width, near0),
+        second: 16 * h + codes::code_g(width, op0),
     }
 }
 
@@ -53,10 +53,10 @@ pub(crate) fn binary(f: u8, h: u64, q: Asked) -> Code
     ensures { λ r. ⌜ r ≡ coded (choice.binary f h q) ⌝ }
 {
     let width = q.width;
-    let near1 = q.near1;
+    let op1 = q.op1;
     Code {
         first: f + word(width),
-        second: 16 * h + codes::code_g(width, near1),
+        second: 16 * h + codes::code_g(width, op1),
     }
 }
 
@@ -66,11 +66,11 @@ pub(crate) fn twice(f: u8, q: Asked) -> Code
     ensures { λ r. ⌜ r ≡ coded (choice.twice f q) ⌝ }
 {
     let width = q.width;
-    let near0 = q.near0;
-    let near1 = q.near1;
+    let op0 = q.op0;
+    let op1 = q.op1;
     Code {
         first: f + word(width),
-        second: 16 * codes::code_g(width, near0) + codes::code_g(width, near1),
+        second: 16 * codes::code_g(width, op0) + codes::code_g(width, op1),
     }
 }
 
@@ -79,10 +79,10 @@ pub(crate) fn bit(h: u64, q: Asked) -> Code
     requires { ⌜ h ≤ 15 ⌝ }
     ensures { λ r. ⌜ r ≡ coded (choice.bit h q) ⌝ }
 {
-    let base0 = q.base0;
+    let op0 = q.op0;
     Code {
         first: 0x7E,
-        second: 16 * h + codes::code_t(base0),
+        second: 16 * h + codes::code_t(op0),
     }
 }
 
@@ -107,8 +107,8 @@ pub(crate) fn decimal(i: u64, q: Asked) -> Code
     requires { ⌜ i ≤ 3 ⌝ }
     ensures { λ r. ⌜ r ≡ coded (choice.decimal i q) ⌝ }
 {
-    let base0 = q.base0;
-    if names::is_wide(base0) {
+    let op0 = q.op0;
+    if names::is_wide(op0) {
         only(0x7C, 0xEC + i, q)
     } else {
         only(0x7C, 0xE4 + i, q)
@@ -120,18 +120,23 @@ pub(crate) fn half(h: u64, q: Asked) -> Code
     requires { ⌜ h ≤ 3 ⌝ }
     ensures { λ r. ⌜ r ≡ coded (choice.half h q) ⌝ }
 {
-    let base1 = q.base1;
-    let near0 = q.near0;
-    let near1 = q.near1;
-    if names::same(base1, Operand::R0L) {
+    let op0 = q.op0;
+    let op1 = q.op1;
+    if names::same(op1, Operand::R0L) {
         return Code {
             first: 0x7C,
-            second: 16 * h + codes::code_g(Width::B, near0),
+            second: 16 * h + codes::code_g(Width::B, op0),
+        };
+    }
+    if names::same(op0, Operand::R0L) {
+        return Code {
+            first: 0x7C,
+            second: 16 * (8 + h) + codes::code_g(Width::B, op1),
         };
     }
     Code {
-        first: 0x7C,
-        second: 16 * (8 + h) + codes::code_g(Width::B, near1),
+        first: 0,
+        second: 0,
     }
 }
 
@@ -159,17 +164,17 @@ fn long(s: u64, q: Asked) -> Code
     requires { ⌜ s ≤ 2 ⌝ }
     ensures { λ r. ⌜ r ≡ coded (choice.long s q) ⌝ }
 {
-    let base0 = q.base0;
-    let base1 = q.base1;
-    if names::same(base0, Operand::Imm4) {
+    let op0 = q.op0;
+    let op1 = q.op1;
+    if names::same(op0, Operand::Imm4) {
         return Code {
             first: 0xEB,
-            second: 16 * (8 + s + pair(base1)) + (q.number as u64),
+            second: 16 * (8 + s + pair(op1)) + (q.number as u64),
         };
     }
     Code {
         first: 0xEB,
-        second: 16 * (s + pair(base1)) + 1,
+        second: 16 * (s + pair(op1)) + 1,
     }
 }
 

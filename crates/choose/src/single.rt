@@ -25,8 +25,8 @@ pub(crate) fn fixed(a: u8, b: u64) -> Code
 pub(crate) fn add(q: Asked) -> Code
     ensures { λ r. ⌜ r ≡ coded (chooseBy ADD q) ⌝ }
 {
-    let base1 = q.base1;
-    if names::same(base1, Operand::SP) {
+    let op1 = q.op1;
+    if names::same(op1, Operand::SP) {
         shapes::only(0x7C, 0xEB, q)
     } else {
         shapes::binary(0x76, 4, q)
@@ -36,8 +36,8 @@ pub(crate) fn add(q: Asked) -> Code
 pub(crate) fn div(q: Asked) -> Code
     ensures { λ r. ⌜ r ≡ coded (chooseBy DIV q) ⌝ }
 {
-    let base0 = q.base0;
-    if names::is_wide(base0) {
+    let op0 = q.op0;
+    if names::is_wide(op0) {
         shapes::only(0x7C, 0xE1, q)
     } else {
         shapes::unary(0x76, 0xD, q)
@@ -47,8 +47,8 @@ pub(crate) fn div(q: Asked) -> Code
 pub(crate) fn push(q: Asked) -> Code
     ensures { λ r. ⌜ r ≡ coded (chooseBy PUSH q) ⌝ }
 {
-    let base0 = q.base0;
-    if names::is_wide(base0) {
+    let op0 = q.op0;
+    if names::is_wide(op0) {
         shapes::only(0x7C, 0xE2, q)
     } else {
         shapes::unary(0x74, 4, q)
@@ -58,12 +58,11 @@ pub(crate) fn push(q: Asked) -> Code
 pub(crate) fn exts(q: Asked) -> Code
     ensures { λ r. ⌜ r ≡ coded (chooseBy EXTS q) ⌝ }
 {
-    let base0 = q.base0;
-    let near0 = q.near0;
-    if names::same(base0, Operand::R0) {
+    let op0 = q.op0;
+    if names::same(op0, Operand::R0) {
         return fixed(0x7C, 0xF3);
     }
-    fixed(0x7C, 0x60 + codes::code_g(Width::B, near0))
+    fixed(0x7C, 0x60 + codes::code_g(Width::B, op0))
 }
 
 pub(crate) fn int(q: Asked) -> Code
@@ -75,58 +74,58 @@ pub(crate) fn int(q: Asked) -> Code
 // JMPI and JSRI, from 0 or 10 on.
 pub(crate) fn jump(b: u64, q: Asked) -> Code
     requires { ⌜ b ≤ 0x10 ⌝ }
-    ensures { λ r. ⌜ r ≡ coded (code 0x7D (b + codeJ (q .near0))) ⌝ }
+    ensures { λ r. ⌜ r ≡ coded (code 0x7D (b + codeJ (q .op0))) ⌝ }
 {
-    let near0 = q.near0;
-    fixed(0x7D, b + codes::code_j(near0))
+    let op0 = q.op0;
+    fixed(0x7D, b + codes::code_j(op0))
 }
 
 pub(crate) fn ldc(q: Asked) -> Code
     ensures { λ r. ⌜ r ≡ coded (chooseBy LDC q) ⌝ }
 {
-    let base1 = q.base1;
-    fixed(0xEB, 16 * codes::code_k(base1))
+    let op1 = q.op1;
+    fixed(0xEB, 16 * codes::code_k(op1))
 }
 
 // PUSHC and POPC, by the low nibble.
 pub(crate) fn control(n: u64, q: Asked) -> Code
     requires { ⌜ n ≤ 15 ⌝ }
-    ensures { λ r. ⌜ r ≡ coded (code 0xEB (16 * codeK (q .base0) + n)) ⌝ }
+    ensures { λ r. ⌜ r ≡ coded (code 0xEB (16 * codeK (q .op0) + n)) ⌝ }
 {
-    let base0 = q.base0;
-    fixed(0xEB, 16 * codes::code_k(base0) + n)
+    let op0 = q.op0;
+    fixed(0xEB, 16 * codes::code_k(op0) + n)
 }
 
 pub(crate) fn stc(q: Asked) -> Code
     ensures { λ r. ⌜ r ≡ coded (chooseBy STC q) ⌝ }
 {
-    let base1 = q.base1;
-    let near0 = q.near0;
+    let op1 = q.op1;
+    let op0 = q.op0;
     fixed(
         0x7B,
-        16 * (8 + codes::code_k(base1)) + codes::code_g(Width::W, near0),
+        16 * (8 + codes::code_k(op1)) + codes::code_g(Width::W, op0),
     )
 }
 
 pub(crate) fn lde(q: Asked) -> Code
     ensures { λ r. ⌜ r ≡ coded (chooseBy LDE q) ⌝ }
 {
-    let base0 = q.base0;
-    shapes::binary(0x74, 8 + shapes::far(base0), q)
+    let op0 = q.op0;
+    shapes::binary(0x74, 8 + shapes::far(op0), q)
 }
 
 pub(crate) fn ste(q: Asked) -> Code
     ensures { λ r. ⌜ r ≡ coded (chooseBy STE q) ⌝ }
 {
-    let base1 = q.base1;
-    shapes::unary(0x74, shapes::far(base1), q)
+    let op1 = q.op1;
+    shapes::unary(0x74, shapes::far(op1), q)
 }
 
 pub(crate) fn mov(q: Asked) -> Code
     ensures { λ r. ⌜ r ≡ coded (chooseBy MOV q) ⌝ }
 {
-    let base0 = q.base0;
-    if names::same(base0, Operand::Disp8_SP) {
+    let op0 = q.op0;
+    if names::same(op0, Operand::Disp8_SP) {
         shapes::binary(0x74, 0xB, q)
     } else {
         shapes::binary(0x74, 0xC, q)
@@ -136,17 +135,17 @@ pub(crate) fn mov(q: Asked) -> Code
 pub(crate) fn mova(q: Asked) -> Code
     ensures { λ r. ⌜ r ≡ coded (chooseBy MOVA q) ⌝ }
 {
-    let base1 = q.base1;
-    let far0 = q.far0;
+    let op1 = q.op1;
+    let op0 = q.op0;
     fixed(
         0xEB,
-        16 * codes::code_g(Width::W, base1) + codes::code_g(Width::W, far0),
+        16 * codes::code_g(Width::W, op1) + codes::code_g(Width::W, op0),
     )
 }
 
 pub(crate) fn pusha(q: Asked) -> Code
     ensures { λ r. ⌜ r ≡ coded (chooseBy PUSHA q) ⌝ }
 {
-    let far0 = q.far0;
-    fixed(0x7D, 0x90 + codes::code_g(Width::W, far0))
+    let op0 = q.op0;
+    fixed(0x7D, 0x90 + codes::code_g(Width::W, op0))
 }

@@ -137,6 +137,3 @@ fitted a b e l v t =
 pub as-named : (a b : ℕ) → known a ≡ true → b < 256 → live (document01 .rowAt a b) ≡ true
     → slim (document01 .rowAt a b .reads) ≡ readsOf (document01 .rowAt a b .face) (conds (document01 .rowAt a b .reads))
 as-named a b e l v = named a b e l v .reads
-
-pub further-below : (a b : ℕ) → known a ≡ true → b < 256 → live (document01 .rowAt a b) ≡ true → further (document01 .rowAt a b .face) ≤ 3
-further-below a b e l v = named a b e l v .number

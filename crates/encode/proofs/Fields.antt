@@ -1,23 +1,25 @@
 -- A name's field, and the bytes that the name asks for.
 -- Assumes nothing.
-use Prim.Native.Nat.{ℕ, zero, suc, _≤_}
+use Prim.Native.Nat.{ℕ, zero, suc}
 use mathlib.Core.Path.{_≡_, refl, sym, ap, _∙_}
-use mathlib.Core.Bool.{Bool, true, false, not}
+use mathlib.Core.Bool.{Bool, true, false, false≢true, not}
 use native.Mathlib.Omega.{arith}
-use lib.Dec.{eqb, leb}
-use borrow.Author.Tests.{eqb-true, ne-eqb, leb-true}
-use Rattle.tests.specs.Choice.{pick}
+use lib.Dec.{eqb}
+use borrow.Author.Tests.{eqb-true, ne-eqb}
 use Rattle.record.specs.declared.Operand.{Operand}
 use Rattle.record.specs.declared.Operand.the-variants.{«Disp8_SP»}
 use Rattle.record.specs.Same.{is, among, Field, nowhere, wide, short, early, fieldOf}
 use Rattle.record.proofs.Apart.{operands-apart}
 use Rattle.record.proofs.Arms.{every-operand, bit, bits-apart}
 use Rattle.shortest.proofs.Bools.{so}
-use Rattle.rows.specs.Row.{Face}
-use Rattle.encode.specs.Asks.{near, before, behind}
+use Rattle.encode.specs.Asks.{near}
 use Rattle.encode.specs.Value.{isShort}
 
-pub near-short : (o : Operand) → not (eqb (near o) 0) ≡ isShort (fieldOf o)
+-- no test is both
+pub no : {A : Type 0} → true ≡ false → A
+no e = absurd (false≢true (sym e))
+
+near-short : (o : Operand) → not (eqb (near o) 0) ≡ isShort (fieldOf o)
 unfolding near is among fieldOf
 near-short o = bits-apart _ _ (eqb-true _ _ (so _ (every-operand (λ o. eqb (bit (not (eqb (near o) 0))) (bit (isShort (fieldOf o)))) tt o)))
 
@@ -33,10 +35,6 @@ not-zero (suc n) = ap not (sym (ne-eqb (suc n) 0 (λ e. absurd (omega (arith, e)
 pub near-some : (o : Operand) → some (near o) ≡ isShort (fieldOf o)
 near-some o = not-zero (near o) ∙ near-short o
 
-pub near-below : (o : Operand) → near o ≤ 2
-unfolding near is among
-near-below o = leb-true _ _ (so _ (every-operand (λ o. leb (near o) 2) tt o))
-
 pub sp-short : (o : Operand) → is o «Disp8_SP» ≡ true → isShort (fieldOf o) ≡ true
 unfolding is among fieldOf
 sp-short o e = ap (λ o. isShort (fieldOf o)) (operands-apart o «Disp8_SP» (eqb-true _ _ e))
@@ -51,13 +49,3 @@ isEarly short = false
 pub never-early : (o : Operand) → isEarly (fieldOf o) ≡ false
 unfolding is among fieldOf
 never-early o = bits-apart _ _ (eqb-true _ _ (so _ (every-operand (λ o. eqb (bit (isEarly (fieldOf o))) 0) tt o)))
-
-picked-below : (s : Bool) {n m : ℕ} → n ≤ 2 → m ≤ 2 → pick s n m ≤ 2
-picked-below true h l = h
-picked-below false h l = l
-
-pub before-below : (f : Face) → before f ≤ 2
-before-below f = picked-below (is (f .op0) «Disp8_SP») (near-below (f .op1)) (near-below (f .op0))
-
-pub behind-below : (f : Face) → behind f ≤ 2
-behind-below f = picked-below (is (f .op0) «Disp8_SP») (omega arith) (near-below (f .op1))

@@ -1,48 +1,55 @@
--- What decoding a code with zeros behind it tells: whether the code can say a key, and by which bytes.
+-- The row at the chosen code has the names that were asked for: whether it can say the record, and by which bytes.
 -- Assumes nothing.
-use Prim.Native.Nat.{ℕ, _≤_, _<_}
-use mathlib.Core.Path.{_≡_, refl, sym, ap, subst, _∙_}
-use mathlib.Core.Logic.{_≢_}
+use Prim.Native.Nat.{ℕ, zero, suc, _<_}
+use mathlib.Core.Path.{_≡_, refl, sym, ap, ap₂, subst, _∙_}
 use mathlib.Core.Bool.{Bool, true, false}
 use mathlib.Core.List.{_∷_}
 use lib.Dec.{T, eqb, ltb}
 use lib.ListN.{getD}
-use borrow.Author.Tests.{eqb-true, eq-eqb, ne-eqb, lt-ltb}
+use borrow.Author.Tests.{eqb-true, eq-eqb, ltb-true}
 use Rattle.tests.specs.Choice.{pick, both}
-use Rattle.record.specs.declared.Answer.{Answer}
+use Rattle.record.specs.declared.Record.{Record}
 use Rattle.record.specs.declared.Key.{Key}
-use Rattle.record.specs.Same.{is, among, fieldOf, baseOf}
+use Rattle.record.specs.declared.Operand.the-variants.{Nothing}
+use Rattle.record.specs.Numbers.{sizeNo, widthNo, operandNo}
+use Rattle.record.specs.Same.{is, among, fieldOf, baseOf, valueOf, key}
+use Rattle.record.proofs.Apart.{operands-apart}
 use Rattle.rows.specs.All.{everyCode}
 use Rattle.rows.specs.Rows.{known, rowsOf, document01}
-use Rattle.rows.specs.Run.{decodeBy, decodeRows}
 use Rattle.rows.proofs.All.{every-code}
+use Rattle.shortest.specs.declared.Asked.{Asked}
 use Rattle.shortest.specs.Says.{bytes, none}
-use Rattle.shortest.specs.Search.{other, conds, live, aim, bytesBy}
-use Rattle.shortest.specs.Coarse.{whole}
+use Rattle.shortest.specs.Search.{conds, live, aim, bytesBy}
+use Rattle.shortest.specs.Coarse.{whole, wholeRow}
 use Rattle.shortest.specs.Can.{can}
-use Rattle.shortest.specs.Direct.{code, there, able, taken}
+use Rattle.shortest.specs.Direct.{Choice, code, nothing, able, taken}
+use Rattle.shortest.specs.Forms.{formOf, numberLimit, goesWith}
+use Rattle.shortest.specs.Choose.{asked, dropsZero, chooseBy, chooseNamed, encoded}
 use Rattle.shortest.proofs.Bools.{so, both-true, picked}
-use Rattle.encode.specs.declared.Parts.{Parts}
+use Rattle.shortest.proofs.Formed.{Formed, formed, meant}
 use Rattle.encode.specs.declared.Plan.{Plan}
-use Rattle.encode.specs.Asks.{near, far, before, behind, further}
-use Rattle.encode.specs.Bare.{bare, faceOf, conditions, tells}
-use Rattle.encode.specs.Parts.{parts, laid, two, slender}
+use Rattle.encode.specs.Asks.{fittingCondition}
+use Rattle.encode.specs.Faced.{faceBy, conditions}
 use Rattle.encode.specs.Plan.{planned, foundBy}
-use Rattle.encode.specs.Sayable.{sayable}
-use Rattle.encode.proofs.Asks.{spelled, further-below}
-use Rattle.encode.proofs.Bare.{names, lives}
-use Rattle.encode.proofs.Told.{told, conditioned}
+use Rattle.encode.specs.Slots as slots
+use Rattle.encode.specs.Slots.{limitOf}
+use Rattle.encode.proofs.Asks.{spelled}
+use Rattle.encode.proofs.Sayable.{agreeing, said}
+use Rattle.encode.proofs.Narrowed.{base-kept, whole-kept, whole-base}
 use Rattle.encode.proofs.Laid.{laid-as}
+use Rattle.encode.proofs.Ordered.{ordered, said-if-small, part-small}
 
--- no live row has bytes for more than two numbers
-atMostTwo : ℕ → ℕ → Bool
-atMostTwo a b =
-    let w = document01 .rowAt a b in
-    pick (live w) (two (before (w .face)) (behind (w .face)) (further (w .face)) (conds (w .reads))) true
+-- 7E 2n reads a condition, no other live row does
+conditional : ℕ → ℕ → Bool
+conditional a b = pick (live (document01 .rowAt a b)) (eqb (conds (document01 .rowAt a b .reads)) (conditions a b)) true
 
-all-two : T (everyCode atMostTwo)
-unfolding everyCode atMostTwo rowsOf near far is among conds fieldOf baseOf whole
-all-two = tt
+all-conditional : T (everyCode conditional)
+unfolding everyCode conditional rowsOf conds
+all-conditional = tt
+
+conditioned : (a b : ℕ) → known a ≡ true → b < 256 → live (document01 .rowAt a b) ≡ true → conds (document01 .rowAt a b .reads) ≡ conditions a b
+unfolding conditional
+conditioned a b e l v = eqb-true _ _ (so _ (picked _ _ (every-code conditional all-conditional b l a e) v))
 
 -- first bytes of the part are not 0
 known-code : (a : ℕ) → known a ≡ true → eqb a 0 ≡ false
@@ -53,80 +60,127 @@ known-code a e = by (eqb a 0) refl
     by false q = refl
     by true q = sym e ∙ ap known (eqb-true a 0 q)
 
-module _ (a b : ℕ) (h : a < 256) (l : b < 256) (k : Key) where
-  abbrev x : Answer
-  x = decodeRows (bare a b)
+-- a code is chosen only for names that go together
+abbrev Coded : Choice → ℕ → ℕ → Type 0
+Coded x a b = x ≡ code a b
 
-  -- a first byte outside the part
-  unknown : known a ≡ false → false ≡ tells a b x k
-  unfolding tells decodeBy
-  unknown e = rw e refl
+abbrev isCode : Choice → Bool
+isCode (code a b) = true
+isCode nothing = false
 
-  able-tells : able document01 a b k ≡ tells a b x k
-  unfolding able
-  able-tells = by (known a) refl
-    where
-      by : (z : Bool) → known a ≡ z → able document01 a b k ≡ tells a b x k
-      by true e = rw (lt-ltb _ _ h) (rw (lt-ltb _ _ l) (rw e refl)) ∙ told a b e h l k
-      by false e = rw (lt-ltb _ _ h) (rw (lt-ltb _ _ l) (rw e refl)) ∙ unknown e
+both-chosen : (g : Bool) (x : Choice) (a b : ℕ) → Coded (pick g x nothing) a b → (g ≡ true) × Coded x a b
+both-chosen true x a b e = (refl, e)
+both-chosen false x a b e = absurd (subst T (sym (ap isCode e)) tt)
 
-  pub not-said : tells a b x k ≡ false → none ≡ taken document01 (code a b) k
+module _ (r : Record) (third : is (r .op2) Nothing ≡ true) (a b : ℕ) (chosen : chooseNamed (r .opcode) (asked (key r)) ≡ code a b) where
+  abbrev k : Key
+  k = key r
+
+  abbrev q : Asked
+  q = asked (key r)
+
+  -- whether each number is 0 and may be dropped, or fits in a byte
+  abbrev zero0 : Bool
+  zero0 = both (dropsZero (k .opcode)) (eqb (k .number0) 0)
+
+  abbrev small0 : Bool
+  small0 = ltb (k .number0) 256
+
+  abbrev zero1 : Bool
+  zero1 = eqb (k .number1) 0
+
+  abbrev small1 : Bool
+  small1 = ltb (k .number1) 256
+
+  no-third : r .op2 ≡ Nothing
+  unfolding is
+  no-third = operands-apart _ _ (eqb-true _ _ third)
+
+  -- a number that is not part of the code is not asked for
+  in-code : whole (q .width) (q .op0) ≡ false → q .number ≡ 0
+  in-code e = ap (λ w. pick w (k .number0) 0) (sym (whole-kept (k .width) zero0 small0 (k .base0)) ∙ e)
+
+  the-row : Formed a b (k .opcode) q
+  unfolding chooseNamed
+  the-row =
+      let x = both-chosen (goesWith (formOf (k .opcode)) q) (chooseBy (k .opcode) q) a b chosen in
+      formed (k .opcode) q a b (x .0) in-code (x .1)
+
+  first-below : a < 256
+  first-below = ltb-true _ _ (both-true (ltb a 256) _ (the-row .there) .0)
+
+  pub second-below : b < 256
+  second-below = ltb-true _ _ (both-true (ltb b 256) _ (both-true (ltb a 256) _ (the-row .there) .1) .0)
+
+  e : known a ≡ true
+  e = both-true (ltb b 256) (known a) (both-true (ltb a 256) _ (the-row .there) .1) .1
+
+  c : conds (document01 .rowAt a b .reads) ≡ conditions a b
+  c = conditioned a b e second-below (the-row .lives)
+
+  -- its names agree with the key's
+  agree : (rest : Bool) → agreeing (document01 .rowAt a b .face) (conds (document01 .rowAt a b .reads)) k rest ≡ rest
+  unfolding fieldOf among is
+  agree rest =
+      let w = document01 .rowAt a b in
+      let base0 : baseOf (w .face .op0) ≡ k .base0 = ap baseOf (the-row .op0) ∙ base-kept zero0 small0 (r .op0) in
+      let base1 : baseOf (w .face .op1) ≡ k .base1 = ap baseOf (the-row .op1) ∙ base-kept zero1 small1 (r .op1) in
+      let base2 : baseOf Nothing ≡ k .base2 = ap baseOf (sym no-third) in
+      let number2 : k .number2 ≡ 0 = ap (λ o. valueOf (fieldOf o) r) no-third in
+      rw (the-row .opcode)
+      (rw (eq-eqb _ _ (ap sizeNo (the-row .size)))
+      (rw (eq-eqb _ _ (ap widthNo (the-row .width)))
+      (rw (eq-eqb _ _ (ap operandNo base0))
+      (rw (eq-eqb _ _ (ap operandNo base1))
+      (rw (eq-eqb _ _ (ap operandNo base2))
+      (rw (eq-eqb _ _ number2) refl))))))
+
+  -- a number that is part of the code is the key's, and small
+  whole-asked : wholeRow (document01 .rowAt a b .face) ≡ whole (q .width) (q .op0)
+  whole-asked = ap₂ (λ w o. whole w (baseOf o)) (the-row .width) (the-row .op0) ∙ sym (whole-base (q .width) (q .op0))
+
+  part : wholeRow (document01 .rowAt a b .face) ≡ true → (document01 .rowAt a b .number ≡ k .number0) × (ltb (k .number0) (limitOf (document01 .rowAt a b .face .op0)) ≡ true)
+  unfolding whole
+  part h =
+      let w = sym whole-asked ∙ h in
+      let n : q .number ≡ k .number0 = ap (λ w. pick w (k .number0) 0) (sym (whole-kept (k .width) zero0 small0 (k .base0)) ∙ w) in
+      let l : k .number0 < numberLimit (q .op0) = subst (λ v. v < numberLimit (q .op0)) n (subst (λ w. q .number < pick w (numberLimit (q .op0)) 1) w (the-row .ranged)) in
+      (the-row .number ∙ n, ap (λ o. ltb (k .number0) (limitOf o)) (the-row .op0) ∙ part-small (q .op0) (k .number0) (both-true (eqb (widthNo (q .width)) 0) _ w .1) l)
+
+  -- a condition that is read has a byte
+  byte-there : (n : ℕ) → meant n (k .opcode) ≡ true → fittingCondition n (k .opcode) ≡ true
+  byte-there zero h = h
+  byte-there (suc n) h = h
+
+  able-is : able document01 a b k ≡ slots.fitting (faceBy q) k
+  unfolding able slots.fitting
+  able-is =
+      ap (λ g. both g (can (document01 .rowAt a b) k)) (the-row .there)
+      ∙ said a b e second-below (the-row .lives) k
+      ∙ agree _
+      ∙ said-if-small a b e second-below (the-row .lives) k (byte-there (conds (document01 .rowAt a b .reads)) (the-row .condition)) part
+      ∙ (λ j. both (ltb (k .number0) (limitOf (the-row .op0 j))) (ltb (k .number1) (limitOf (the-row .op1 j))))
+
+  pub not-said : slots.fitting (faceBy q) k ≡ false → none ≡ encoded r
   unfolding taken
-  not-said u = rw (able-tells ∙ u) refl
+  not-said u = ap (λ z. pick z (bytes (bytesBy document01 a b k)) none) (sym (able-is ∙ u)) ∙ ap (λ x. taken document01 x k) (sym chosen)
 
-  module _ (u : tells a b x k ≡ true) where
-    able-so : able document01 a b k ≡ true
-    able-so = able-tells ∙ u
+  -- what stands behind the code does not depend on its opcode or size
+  same-slots : slots.slots (document01 .rowAt a b .face) (conds (document01 .rowAt a b .reads)) k ≡ slots.slots (faceBy q) (conditions a b) k
+  unfolding slots.slots
+  same-slots =
+      let f = document01 .rowAt a b .face in
+      λ j. slots.slots (record { opcode = f .opcode; size = f .size; width = the-row .width j; op0 = the-row .op0 j; op1 = the-row .op1 j; marked = f .marked }) (c j) k
 
-    e : known a ≡ true
-    unfolding able
-    e = both-true (ltb b 256) (known a) (both-true (ltb a 256) _ (both-true (there document01 a b) (can (document01 .rowAt a b) k) able-so .0) .1) .1
+  in-slots : bytesBy document01 a b k ≡ a ∷ b ∷ slots.slots (faceBy q) (conditions a b) k
+  unfolding bytesBy
+  in-slots =
+      let w = document01 .rowAt a b in
+      ap (λ xs. a ∷ b ∷ xs)
+      (spelled a b e second-below (the-row .lives) (aim (w .face) k) ∙ laid-as (w .face) (conds (w .reads)) k ∙ ordered a b e second-below (the-row .lives) k ∙ same-slots)
 
-    v : live (document01 .rowAt a b) ≡ true
-    unfolding tells
-    v = lives a b e h l ∙ both-true _ _ u .0
-
-    -- the row's names are the record's
-    same-parts : parts (document01 .rowAt a b .face) (conds (document01 .rowAt a b .reads)) k ≡ parts (faceOf (x .inst)) (conditions a b) k
-    unfolding tells
-    same-parts =
-        let s = names a b e h l (eqb-true _ _ (both-true _ _ (both-true _ _ u .0) .0)) in
-        let f = document01 .rowAt a b .face in
-        let c = conditioned a b e l v in
-        λ j. parts (record { opcode = f .opcode; size = f .size; width = sym (s .width) j; op0 = sym (s .op0) j; op1 = sym (s .op1) j; marked = f .marked }) (c j) k
-
-    as-laid : bytesBy document01 a b k ≡ a ∷ b ∷ laid (parts (faceOf (x .inst)) (conditions a b) k)
-    unfolding bytesBy
-    as-laid =
-        let w = document01 .rowAt a b in
-        ap (λ xs. a ∷ b ∷ xs) (spelled a b e l v (aim (w .face) k) ∙ laid-as (w .face) (conds (w .reads)) k ∙ ap laid same-parts)
-
-    pub said-slender : slender (parts (faceOf (x .inst)) (conditions a b) k) ≡ true
-    unfolding atMostTwo
-    said-slender = ap slender (sym same-parts) ∙ so _ (picked _ _ (every-code atMostTwo all-two b l a e) v)
-
-    pub said-further : further (faceOf (x .inst)) ≤ 3
-    said-further = subst (λ p. p .further ≤ 3) same-parts (further-below a b e l v)
-
-    pub said-by : (p : Plan) → planned p ≡ a ∷ b ∷ laid (parts (faceOf (x .inst)) (conditions a b) k) → foundBy p ≡ taken document01 (code a b) k
-    unfolding taken
-    said-by p q =
-        let first : eqb (p .first) 0 ≡ false = ap (λ xs. eqb (getD xs 0 0) 0) q ∙ known-code a e in
-        rw first (rw able-so (ap bytes (q ∙ sym as-laid)))
-
-  -- the same of an answer that is that decoding
-  module _ {y : Answer} (q : y ≡ x) where
-    pub refused : y .refusal ≢ 0 → none ≡ taken document01 (code a b) k
-    unfolding tells
-    refused z = not-said (ap (λ g. both (both g (other (x .inst .marked))) (sayable (faceOf (x .inst)) (x .inst .«imm_wide») (conditions a b) k)) (sym (ap (λ y. eqb (y .refusal) 0) q) ∙ ne-eqb _ _ z))
-
-    pub marked : y .refusal ≡ 0 → y .inst .marked ≡ true → none ≡ taken document01 (code a b) k
-    unfolding tells
-    marked z m = not-said (sym (ap (λ y. tells a b y k) q) ∙ rw (eq-eqb _ _ z) (rw m refl))
-
-    pub by-saying : y .refusal ≡ 0 → y .inst .marked ≡ false → tells a b x k ≡ sayable (faceOf (y .inst)) (y .inst .«imm_wide») (conditions a b) k
-    unfolding tells
-    by-saying z m = sym (ap (λ y. tells a b y k) q) ∙ rw (eq-eqb _ _ z) (rw m refl)
-
-    pub as-parts : {p : Parts} {c : ℕ} → p ≡ parts (faceOf (y .inst)) c k → c ≡ conditions a b → p ≡ parts (faceOf (x .inst)) (conditions a b) k
-    as-parts e n = e ∙ (λ j. parts (faceOf (q j .inst)) (n j) k)
+  pub said-by : slots.fitting (faceBy q) k ≡ true → (p : Plan) → planned p ≡ a ∷ b ∷ slots.slots (faceBy q) (conditions a b) k → foundBy p ≡ encoded r
+  unfolding taken
+  said-by u p s =
+      let first : eqb (p .first) 0 ≡ false = ap (λ xs. eqb (getD xs 0 0) 0) s ∙ known-code a e in
+      rw first (ap bytes (s ∙ sym in-slots) ∙ ap (λ z. pick z (bytes (bytesBy document01 a b k)) none) (sym (able-is ∙ u))) ∙ ap (λ x. taken document01 x k) (sym chosen)

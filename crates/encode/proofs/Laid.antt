@@ -15,10 +15,7 @@ use Rattle.shortest.specs.Search.{dispFor, firstFor, aim}
 use Rattle.encode.specs.Asks.{near, before, behind, front, numbers, fitting, allFitting}
 use Rattle.encode.specs.Value.{isShort}
 use Rattle.encode.specs.Parts.{parts, laid, fitParts}
-use Rattle.encode.proofs.Fields.{some, near-some, sp-short}
-
-no : {A : Type 0} → true ≡ false → A
-no e = absurd (false≢true (sym e))
+use Rattle.encode.proofs.Fields.{no, some, near-some, sp-short}
 
 -- n and m are the bytes of the two operands' displacements, f and g their fields, s that operand 0 is Disp8_SP
 module _ (k : Key) where

@@ -2,14 +2,13 @@ pub mod Put
 pub mod Room
 pub mod Slim
 pub mod Asks
-pub mod Bare
 pub mod Sayable
-pub mod Told
+pub mod Narrowed
 pub mod Fields
 pub mod Value
 pub mod Laid
 pub mod Found
-pub mod Fit
-pub mod Planned
+pub mod Tagged
+pub mod Ordered
 pub mod Taken
 pub mod Outcomes

@@ -2,7 +2,7 @@
 -- Assumes nothing.
 use Prim.Native.Nat.{ℕ, zero, suc, _<_}
 use mathlib.Core.Path.{_≡_, refl, ap, _∙_}
-use mathlib.Core.Bool.{true}
+use mathlib.Core.Bool.{Bool, true}
 use mathlib.Core.List.{List, _++_}
 use lib.Dec.{eqb}
 use Rattle.tests.specs.Choice.{both}
@@ -53,13 +53,24 @@ exact-any wide zero own v = refl
 exact-any wide (suc n) own v = refl
 
 -- no number is read where none is asked for
-pub read-asked : (a b : ℕ) → known a ≡ true → b < 256 → live (document01 .rowAt a b) ≡ true → imms (document01 .rowAt a b .reads) ≡ any (further (document01 .rowAt a b .face))
+read-asked : (a b : ℕ) → known a ≡ true → b < 256 → live (document01 .rowAt a b) ≡ true → imms (document01 .rowAt a b .reads) ≡ any (further (document01 .rowAt a b .face))
 read-asked a b e l v =
     let w = document01 .rowAt a b in
     slim-imms (w .reads) ∙ ap imms (as-named a b e l v) ∙ of-all (w .face) (conds (w .reads))
 
+-- the names agree, no third operand is asked for, and the rest holds
+abbrev pub agreeing : Face → ℕ → Key → Bool → Bool
+agreeing f c k rest =
+    both (named c (f .opcode) (k .opcode))
+    (both (eqb (sizeNo (f .size)) (sizeNo (k .size)))
+    (both (eqb (widthNo (f .width)) (widthNo (k .width)))
+    (both (eqb (operandNo (baseOf (f .op0))) (operandNo (k .base0)))
+    (both (eqb (operandNo (baseOf (f .op1))) (operandNo (k .base1)))
+    (both (eqb (operandNo (baseOf Nothing)) (operandNo (k .base2))) (both (eqb (k .number2) 0) rest))))))
+
 pub said : (a b : ℕ) → known a ≡ true → b < 256 → live (document01 .rowAt a b) ≡ true → (k : Key)
-    → can (document01 .rowAt a b) k ≡ sayable (document01 .rowAt a b .face) (document01 .rowAt a b .number) (conds (document01 .rowAt a b .reads)) k
+    → can (document01 .rowAt a b) k
+    ≡ agreeing (document01 .rowAt a b .face) (conds (document01 .rowAt a b .reads)) k (sayable (document01 .rowAt a b .face) (document01 .rowAt a b .number) (conds (document01 .rowAt a b .reads)) k)
 unfolding can sayable
 said a b e l v k =
     let w = document01 .rowAt a b in
@@ -67,12 +78,4 @@ said a b e l v k =
     let i = read-asked a b e l v in
     let x : (o : Field) (n : ℕ) → exact o (imms (w .reads)) (w .number) n ≡ exact o (further f) (w .number) n = λ o n. ap (λ m. exact o m (w .number) n) i ∙ exact-any o (further f) (w .number) n in
     λ j. both (v j)
-    (both (named (conds (w .reads)) (f .opcode) (k .opcode))
-    (both (eqb (sizeNo (f .size)) (sizeNo (k .size)))
-    (both (eqb (widthNo (f .width)) (widthNo (k .width)))
-    (both (eqb (operandNo (baseOf (f .op0))) (operandNo (k .base0)))
-    (both (eqb (operandNo (baseOf (f .op1))) (operandNo (k .base1)))
-    (both (eqb (operandNo (baseOf Nothing)) (operandNo (k .base2)))
-    (both (eqb (k .number2) 0)
-    (both (x (fieldOf (f .op0)) (k .number0) j)
-    (both (x (fieldOf (f .op1)) (k .number1) j) (fitted a b e l v (aim f k) j))))))))))
+    (agreeing f (conds (w .reads)) k (both (x (fieldOf (f .op0)) (k .number0) j) (both (x (fieldOf (f .op1)) (k .number1) j) (fitted a b e l v (aim f k) j))))

@@ -1,33 +1,63 @@
--- A choice as a code's two numbers finds what the choice finds.
+-- A choice as a code's two numbers; and what is found for none, and for a record with a third operand.
 -- Assumes nothing.
-use Prim.Native.Nat.{_≤_}
 use mathlib.Core.Path.{_≡_, refl, sym, ap, _∙_}
-use mathlib.Core.Bool.{Bool, true, false}
-use lib.Dec.{ltb}
-use borrow.Author.Tests.{le-ltb}
+use mathlib.Core.Logic.{_≢_}
+use mathlib.Core.Bool.{Bool, true, false, false≢true}
+use lib.Dec.{ltb, eqb}
+use borrow.Author.Tests.{eq-eqb}
 use Rattle.tests.specs.Choice.{pick, both}
 use Rattle.record.specs.declared.Key.{Key}
+use Rattle.record.specs.declared.Record.{Record}
+use Rattle.record.specs.declared.Operand.{Operand}
+use Rattle.record.specs.declared.Operand.the-variants.{Nothing}
+use Rattle.record.specs.Numbers.{operandNo}
+use Rattle.record.specs.Same.{is, among, baseOf, key}
+use Rattle.record.proofs.Arms.{every-operand}
 use Rattle.rows.specs.Rows.{known, document01}
 use Rattle.shortest.specs.Says.{bytes, none}
 use Rattle.shortest.specs.Search.{bytesBy}
 use Rattle.shortest.specs.Can.{can}
-use Rattle.shortest.specs.Direct.{Choice, code, nothing, able, taken}
+use Rattle.shortest.specs.Choose.{choose, encoded}
+use Rattle.shortest.specs.Direct.{Choice, code, nothing, there, able, taken}
+use Rattle.shortest.proofs.Bools.{so, both-true, picked}
+use Rattle.shortest.proofs.Can.{parts}
 use Rattle.choose.specs.Coded.{coded}
 
-pub coded-taken : (x : Choice) (k : Key) → taken document01 (code (coded x .first) (coded x .second)) k ≡ taken document01 x k
-unfolding taken able known
-coded-taken (code a b) k = refl
-coded-taken nothing k = refl
+pub uncoded : (x : Choice) → coded x .first ≢ 0 → x ≡ code (coded x .first) (coded x .second)
+uncoded (code a b) h = refl
+uncoded nothing h = absurd (h refl)
 
 last-false : (a : Bool) → both a false ≡ false
 last-false true = refl
 last-false false = refl
 
-pub too-large : (x : Choice) (k : Key) → 256 ≤ coded x .second → none ≡ taken document01 x k
-unfolding taken able
-too-large nothing k h = refl
-too-large (code a b) k h =
+-- no code of the part begins with 0
+pub not-chosen : (x : Choice) (k : Key) → coded x .first ≡ 0 → none ≡ taken document01 x k
+unfolding taken able known
+not-chosen nothing k h = refl
+not-chosen (code a b) k h =
     let out : able document01 a b k ≡ false =
-    ap (λ z. both (both (ltb a 256) (both z (known a))) (can (document01 .rowAt a b) k)) (le-ltb b 256 h) ∙ ap (λ z. both z (can (document01 .rowAt a b) k)) (last-false (ltb a 256))
+    ap (λ z. both (both (ltb a 256) (both (ltb b 256) (known z))) (can (document01 .rowAt a b) k)) h
+    ∙ ap (λ z. both (both (ltb a 256) z) (can (document01 .rowAt a b) k)) (last-false (ltb b 256))
+    ∙ ap (λ z. both z (can (document01 .rowAt a b) k)) (last-false (ltb a 256))
     in
     ap (λ z. pick z (bytes (bytesBy document01 a b k)) none) (sym out)
+
+-- only Nothing has the base Nothing
+nothing-only : (o : Operand) → baseOf Nothing ≡ baseOf o → is o Nothing ≡ true
+unfolding baseOf is among
+nothing-only o e = so _ (picked _ _ (every-operand (λ o. pick (eqb (operandNo (baseOf Nothing)) (operandNo (baseOf o))) (is o Nothing) true) tt o) (eq-eqb _ _ (ap operandNo e)))
+
+not-able : (r : Record) → is (r .op2) Nothing ≡ false → (x : Choice) → none ≡ taken document01 x (key r)
+unfolding taken able
+not-able r h nothing = refl
+not-able r h (code a b) = by (able document01 a b (key r)) refl
+  where
+    by : (z : Bool) → able document01 a b (key r) ≡ z → none ≡ pick z (bytes (bytesBy document01 a b (key r))) none
+    by false e = refl
+    by true e =
+        let c = parts (document01 .rowAt a b) (key r) (both-true (there document01 a b) (can (document01 .rowAt a b) (key r)) e .1) in
+        absurd (false≢true (sym h ∙ nothing-only (r .op2) (c .base2)))
+
+pub third : (r : Record) → is (r .op2) Nothing ≡ false → none ≡ encoded r
+third r h = not-able r h (choose (key r))

@@ -1,23 +1,18 @@
 -- The number of each operand, by its own field and its own displacement.
 -- Assumes nothing.
 use Prim.Native.Nat.{ℕ, zero, suc}
-use mathlib.Core.Path.{_≡_, refl, sym}
+use mathlib.Core.Path.{_≡_, refl}
 use mathlib.Core.Logic.{_≢_}
 use mathlib.Core.Bool.{Bool, true, false, false≢true}
 use lib.Dec.{eqb}
 use Rattle.tests.specs.Choice.{pick}
-use Rattle.record.specs.declared.Key.{Key}
 use Rattle.record.specs.declared.Record.{Record}
 use Rattle.record.specs.declared.Operand.the-variants.{«Disp8_SP»}
 use Rattle.record.specs.Same.{is, Field, nowhere, wide, short, early, fieldOf, shared, field0, field1, valueOf}
 use Rattle.shortest.specs.Can.{exact}
-use Rattle.shortest.specs.Search.{wideFor}
 use Rattle.choose.specs.Coded.{isWide}
 use Rattle.encode.specs.Value.{valued, isShort}
-use Rattle.encode.proofs.Fields.{isEarly, never-early, sp-short}
-
-no : {A : Type 0} → true ≡ false → A
-no e = absurd (false≢true (sym e))
+use Rattle.encode.proofs.Fields.{no, isEarly, never-early, sp-short}
 
 module _ (r : Record) where
   by-field0 : (f g : Field) (s : Bool) → isEarly f ≡ false → valued f (r .«imm_wide») (pick s (r .dispabs) (pick (isShort g) (r .first) (r .dispabs))) ≡ valueOf (shared f g (pick s false true)) r
@@ -81,12 +76,6 @@ module _ (w s : ℕ) where
   valued-none wide h k = no h
   valued-none short h k = no k
 
-pub wide-for : (f : Field) (k : Key) → pick (isWide f) (k .number0) (k .number1) ≡ wideFor f k
-wide-for wide k = refl
-wide-for nowhere k = refl
-wide-for short k = refl
-wide-for early k = refl
-
 -- a number that is not read
 module _ (n own v : ℕ) where
   pub exact-own : (f : Field) → isWide f ≡ true → n ≡ 0 → eqb v own ≡ exact f n own v
@@ -104,15 +93,3 @@ module _ (n own v : ℕ) where
   exact-read nowhere h z = absurd (false≢true h)
   exact-read short h z = absurd (false≢true h)
   exact-read early h z = absurd (false≢true h)
-
-  pub exact-short : (f : Field) → isShort f ≡ true → true ≡ exact f n own v
-  exact-short short h = refl
-  exact-short nowhere h = absurd (false≢true h)
-  exact-short wide h = absurd (false≢true h)
-  exact-short early h = absurd (false≢true h)
-
-  pub exact-none : (f : Field) → isWide f ≡ false → isShort f ≡ false → isEarly f ≡ false → eqb v 0 ≡ exact f n own v
-  exact-none nowhere h k e = refl
-  exact-none wide h k e = no h
-  exact-none short h k e = no k
-  exact-none early h k e = no e

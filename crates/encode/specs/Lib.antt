@@ -1,6 +1,7 @@
 pub mod Plan
 pub mod Asks
-pub mod Bare
+pub mod Faced
 pub mod Sayable
 pub mod Value
 pub mod Parts
+pub mod Slots

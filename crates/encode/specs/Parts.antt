@@ -1,9 +1,8 @@
--- The numbers behind a code for a key, in their order: a displacement, another, another number, a condition.
+-- The numbers behind a code for a key as a row reads them: a displacement, another, another number, a condition.
 use Prim.Native.Nat.{ℕ}
 use mathlib.Core.Bool.{Bool}
 use mathlib.Core.List.{List, _++_}
-use lib.Dec.{eqb}
-use Rattle.tests.specs.Choice.{pick, both, either}
+use Rattle.tests.specs.Choice.{pick, both}
 use Rattle.record.specs.declared.Key.{Key}
 use Rattle.record.specs.declared.Opcode.{Opcode}
 use Rattle.record.specs.declared.Operand.the-variants.{«Disp8_SP»}
@@ -11,8 +10,18 @@ use Rattle.record.specs.Same.{is, fieldOf}
 use Rattle.rows.specs.Row.{Face}
 use Rattle.shortest.specs.Digits.{digits}
 use Rattle.shortest.specs.Search.{condByte, wideFor}
-use Rattle.encode.specs.declared.Parts.{Parts}
 use Rattle.encode.specs.Asks.{before, behind, further, fitting, fittingNumber, fittingCondition}
+
+-- each has so many bytes
+pub record Parts : Type 0 where
+  pub before : ℕ
+  pub front : ℕ
+  pub behind : ℕ
+  pub back : ℕ
+  pub further : ℕ
+  pub wide : ℕ
+  pub conditions : ℕ
+  pub byte : ℕ
 
 -- Disp8_SP is read behind the other operand
 abbrev pub parts : Face → ℕ → Key → Parts
@@ -34,10 +43,3 @@ laid p = digits (p .before) (p .front) ++ (digits (p .behind) (p .back) ++ (digi
 -- each fits in its bytes
 abbrev pub fitParts : Parts → Opcode → Bool
 fitParts p o = both (fitting (p .before) (p .front)) (both (fitting (p .behind) (p .back)) (both (fittingNumber (p .further) (p .wide)) (fittingCondition (p .conditions) o)))
-
--- not more than two of them have bytes
-abbrev pub two : ℕ → ℕ → ℕ → ℕ → Bool
-two n m i c = both (either (eqb i 0) (eqb c 0)) (either (either (eqb n 0) (eqb m 0)) (both (eqb i 0) (eqb c 0)))
-
-abbrev pub slender : Parts → Bool
-slender p = two (p .before) (p .behind) (p .further) (p .conditions)

@@ -1,7 +1,6 @@
 // The condition that an opcode is, as 7E 2n reads it.
 ghost use mathlib.Core.Path.{_≡_};
-ghost use Rattle.rows.specs.Codes.{condOf};
-ghost use Rattle.shortest.specs.Search.{means, condByte};
+ghost use Rattle.shortest.specs.Search.{condByte};
 use record::Opcode;
 
 pub(crate) fn byte_of(o: Opcode) -> u8
@@ -22,14 +21,5 @@ pub(crate) fn byte_of(o: Opcode) -> u8
         Opcode::BMNO => 0xFD,
         Opcode::BMLT => 0xFE,
         _ => 0,
-    }
-}
-
-pub(crate) fn has_byte(o: Opcode) -> bool
-    ensures { λ r. ⌜ r ≡ means (condOf (condByte o)) o ⌝ }
-{
-    match o {
-        Opcode::BMGEU => true,
-        _ => byte_of(o) != 0,
     }
 }

@@ -4,7 +4,7 @@ use Prim.Native.Nat.{ℕ, _<_}
 use mathlib.Core.Path.{_≡_, refl}
 use mathlib.Core.Bool.{Bool, true, false}
 use lib.Dec.{T}
-use Rattle.tests.specs.Choice.{pick}
+use Rattle.tests.specs.Choice.{pick, both}
 use Rattle.record.specs.declared.Record.{Record}
 use Rattle.record.specs.declared.Key.{Key}
 use Rattle.record.specs.Same.{baseOf, fieldOf, key}
@@ -14,7 +14,7 @@ use Rattle.rows.proofs.All.{every-code}
 use Rattle.shortest.specs.Says.{Right}
 use Rattle.shortest.specs.Search.{imms, best}
 use Rattle.shortest.specs.Coarse.{regular, coarse, wholeKey, whole, roughly}
-use Rattle.shortest.specs.Choose.{choose, chooseBy, narrow, encoded}
+use Rattle.shortest.specs.Choose.{choose, chooseNamed, dropsZero, narrow, encoded}
 use Rattle.shortest.proofs.Bools.{so}
 use Rattle.shortest.proofs.Optimal.{unique}
 use Rattle.shortest.proofs.Here.{plains, by-search}
@@ -43,14 +43,11 @@ steady k =
     let x = like-roughly (wholeKey k) (k .number0) in
     let y = like-roughly (wholeKey k) (k .number1) in
     let n = exactly (wholeKey k) (k .number0) in
-    λ i. chooseBy (k .opcode) (record {
+    λ i. chooseNamed (k .opcode) (record {
       size = k .size;
       width = k .width;
-      base0 = k .base0;
-      base1 = k .base1;
-      near0 = narrow (k .base0) (x .zero? i) (x .byte? i);
-      near1 = narrow (k .base1) (y .zero? i) (y .byte? i);
-      far0 = narrow (k .base0) false (x .byte? i);
+      op0 = narrow (k .base0) (both (dropsZero (k .opcode)) (x .zero? i)) (x .byte? i);
+      op1 = narrow (k .base1) (y .zero? i) (y .byte? i);
       number = n i;
     })
 

@@ -13,6 +13,7 @@ pub mod Can
 pub mod Direct
 pub mod Coarse
 pub mod Tested
+pub mod Formed
 pub mod Chosen
 pub mod Consequences
 pub mod Written

@@ -8,13 +8,14 @@ use lib.Dec.{T, leb, ltb}
 use borrow.Author.Tests.{ltb-false, leb-true, eqb-true}
 use Rattle.tests.specs.Range.{upto}
 use Rattle.tests.proofs.Range.{upto-at, each-from}
-use Rattle.record.specs.Same.{fieldOf, baseOf}
+use Rattle.record.specs.Same.{among, fieldOf, baseOf}
 use Rattle.rows.specs.Codes.{condOf}
 use Rattle.rows.specs.Rows.{known, rowsOf, document01}
 use Rattle.shortest.specs.Search.{condByte, disps, imms, conds, aim}
 use Rattle.shortest.specs.Can.{fits, can}
-use Rattle.shortest.specs.Choose.{choose, chooseBy, place}
+use Rattle.shortest.specs.Choose.{choose, chooseNamed, chooseBy, dropsZero, place}
 use Rattle.shortest.specs.Coarse.{codeTest, whole}
+use Rattle.shortest.specs.Forms.{formOf, goesWith}
 use Rattle.shortest.proofs.Bools.{so}
 
 -- every code with the first byte a
@@ -22,51 +23,51 @@ abbrev Tested : ℕ → Type 0
 Tested a = T (upto (codeTest document01 choose a) 256)
 
 tested74 : Tested 0x74
-unfolding upto codeTest rowsOf known can fits aim chooseBy place condOf condByte disps imms conds fieldOf baseOf whole
+unfolding upto codeTest rowsOf known can fits aim chooseNamed dropsZero goesWith formOf among chooseBy place condOf condByte disps imms conds fieldOf baseOf whole
 tested74 = tt
 
 tested75 : Tested 0x75
-unfolding upto codeTest rowsOf known can fits aim chooseBy place condOf condByte disps imms conds fieldOf baseOf whole
+unfolding upto codeTest rowsOf known can fits aim chooseNamed dropsZero goesWith formOf among chooseBy place condOf condByte disps imms conds fieldOf baseOf whole
 tested75 = tt
 
 tested76 : Tested 0x76
-unfolding upto codeTest rowsOf known can fits aim chooseBy place condOf condByte disps imms conds fieldOf baseOf whole
+unfolding upto codeTest rowsOf known can fits aim chooseNamed dropsZero goesWith formOf among chooseBy place condOf condByte disps imms conds fieldOf baseOf whole
 tested76 = tt
 
 tested77 : Tested 0x77
-unfolding upto codeTest rowsOf known can fits aim chooseBy place condOf condByte disps imms conds fieldOf baseOf whole
+unfolding upto codeTest rowsOf known can fits aim chooseNamed dropsZero goesWith formOf among chooseBy place condOf condByte disps imms conds fieldOf baseOf whole
 tested77 = tt
 
 tested78 : Tested 0x78
-unfolding upto codeTest rowsOf known can fits aim chooseBy place condOf condByte disps imms conds fieldOf baseOf whole
+unfolding upto codeTest rowsOf known can fits aim chooseNamed dropsZero goesWith formOf among chooseBy place condOf condByte disps imms conds fieldOf baseOf whole
 tested78 = tt
 
 tested79 : Tested 0x79
-unfolding upto codeTest rowsOf known can fits aim chooseBy place condOf condByte disps imms conds fieldOf baseOf whole
+unfolding upto codeTest rowsOf known can fits aim chooseNamed dropsZero goesWith formOf among chooseBy place condOf condByte disps imms conds fieldOf baseOf whole
 tested79 = tt
 
 tested7A : Tested 0x7A
-unfolding upto codeTest rowsOf known can fits aim chooseBy place condOf condByte disps imms conds fieldOf baseOf whole
+unfolding upto codeTest rowsOf known can fits aim chooseNamed dropsZero goesWith formOf among chooseBy place condOf condByte disps imms conds fieldOf baseOf whole
 tested7A = tt
 
 tested7B : Tested 0x7B
-unfolding upto codeTest rowsOf known can fits aim chooseBy place condOf condByte disps imms conds fieldOf baseOf whole
+unfolding upto codeTest rowsOf known can fits aim chooseNamed dropsZero goesWith formOf among chooseBy place condOf condByte disps imms conds fieldOf baseOf whole
 tested7B = tt
 
 tested7C : Tested 0x7C
-unfolding upto codeTest rowsOf known can fits aim chooseBy place condOf condByte disps imms conds fieldOf baseOf whole
+unfolding upto codeTest rowsOf known can fits aim chooseNamed dropsZero goesWith formOf among chooseBy place condOf condByte disps imms conds fieldOf baseOf whole
 tested7C = tt
 
 tested7D : Tested 0x7D
-unfolding upto codeTest rowsOf known can fits aim chooseBy place condOf condByte disps imms conds fieldOf baseOf whole
+unfolding upto codeTest rowsOf known can fits aim chooseNamed dropsZero goesWith formOf among chooseBy place condOf condByte disps imms conds fieldOf baseOf whole
 tested7D = tt
 
 tested7E : Tested 0x7E
-unfolding upto codeTest rowsOf known can fits aim chooseBy place condOf condByte disps imms conds fieldOf baseOf whole
+unfolding upto codeTest rowsOf known can fits aim chooseNamed dropsZero goesWith formOf among chooseBy place condOf condByte disps imms conds fieldOf baseOf whole
 tested7E = tt
 
 testedEB : Tested 0xEB
-unfolding upto codeTest rowsOf known can fits aim chooseBy place condOf condByte disps imms conds fieldOf baseOf whole
+unfolding upto codeTest rowsOf known can fits aim chooseNamed dropsZero goesWith formOf among chooseBy place condOf condByte disps imms conds fieldOf baseOf whole
 testedEB = tt
 
 each-tested : (a : ℕ) → known a ≡ true → Tested a

@@ -5,5 +5,6 @@ pub mod Search
 pub mod Can
 pub mod Direct
 pub mod Coarse
+pub mod Forms
 pub mod Choose
 pub mod Bench

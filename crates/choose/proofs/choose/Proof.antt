@@ -1,14 +1,25 @@
 -- `choose::choose` meets its contract.
 -- Assumes nothing.
-use mathlib.Core.Path.{ap, _∙_}
+use mathlib.Core.Path.{sym, ap, _∙_}
 use borrow.Author.Needs.{needs}
-use Rattle.shortest.specs.Choose.{chooseBy}
+use Rattle.tests.specs.Choice.{pick}
+use Rattle.shortest.specs.Direct.{nothing}
+use Rattle.shortest.specs.Choose.{chooseBy, chooseNamed}
 use Rattle.choose.specs.Coded.{coded}
 use Rattle.choose.proofs.choose.Statement.{statement}
 use Rattle.choose.proofs.choose.Tie as tie
 
 returns : tie.Need-returns
-returns c = c .choose-by .ensures ∙ ap (λ q. coded (chooseBy (c .before .before .args .k .opcode) q)) (c .before .asked .ensures)
+unfolding chooseNamed
+returns c =
+    let args = c .before .before .before .args in
+    c .choose-by .ensures ∙ ap (λ b. coded (pick b (chooseBy (args .o) (args .q)) nothing)) (sym (sym (c .before .before .goes-with .ensures) ∙ c .before .if1 .taken))
+
+returns-2 : tie.Need-returns-2
+unfolding chooseNamed
+returns-2 c =
+    let args = c .before .before .before .args in
+    c .fixed .ensures ∙ ap (λ b. coded (pick b (chooseBy (args .o) (args .q)) nothing)) (sym (sym (c .before .before .goes-with .ensures) ∙ c .before .if1 .left))
 
 pub choose-spec : {M : Type 1} → statement M
-choose-spec = tie.close (tie.spec (λ c κs. search needs) (λ c κs. search needs) returns)
+choose-spec = tie.close (tie.spec (λ c κs. search needs) (λ c κs. search needs) returns (λ c κs. search needs) returns-2)

@@ -31,7 +31,7 @@ jmpi : tie.Need-returns-48
 unfolding chooseBy
 jmpi c =
     let start = c .before .before .before in
-    told start (c .before .enum-told48 .given .1) (c .jump .ensures ∙ ap (λ n. coded (code 0x7D n)) (zero-add (codeJ (start .args .q .near0))))
+    told start (c .before .enum-told48 .given .1) (c .jump .ensures ∙ ap (λ n. coded (code 0x7D n)) (zero-add (codeJ (start .args .q .op0))))
 
 none : tie.Need-returns-88
 unfolding chooseBy

@@ -1,28 +1,90 @@
 -- `encode::find` meets its contract.
 -- Assumes nothing.
-use Prim.Native.Nat.{_≤_}
-use mathlib.Core.Path.{ap, subst, _∙_}
+use Prim.Native.Nat.{ℕ}
+use mathlib.Core.Path.{_≡_, sym, ap, ap₂, _∙_}
+use mathlib.Core.Logic.{_≢_}
+use mathlib.Core.Bool.{Bool}
+use mathlib.Core.List.{_∷_}
 use borrow.Author.Needs.{needs}
-use Rattle.rows.specs.Rows.{document01}
+use Rattle.record.specs.declared.Record.{Record}
+use Rattle.record.specs.Same.{key}
+use Rattle.shortest.specs.declared.Asked.{Asked}
+use Rattle.shortest.specs.Direct.{code}
 use Rattle.shortest.specs.Choose as choice
-use Rattle.shortest.specs.Direct.{code, taken}
-use Rattle.encode.proofs.Taken.{coded-taken, too-large}
+use Rattle.choose.specs.Coded.{coded}
+use Rattle.encode.specs.Faced as faced
+use Rattle.encode.specs.Slots as slots
+use Rattle.encode.proofs.Taken.{uncoded, not-chosen}
+use Rattle.encode.proofs.Found.{second-below, not-said, said-by}
 use Rattle.encode.proofs.find.Statement.{statement}
 use Rattle.encode.proofs.find.Tie as tie
 
+-- what was chosen is the choice for the record's key
+abbrev the-record : tie.After-choose → Record
+the-record t = t .before .before .before .args .r
+
+abbrev the-asked : tie.After-choose → Asked
+the-asked t = choice.asked (key (the-record t))
+
+key-is : (t : tie.After-choose) → t .before .before .key-of .result ≡ key (the-record t)
+key-is t = t .before .before .key-of .ensures
+
+asked-is : (t : tie.After-choose) → t .before .asked .result ≡ the-asked t
+asked-is t = t .before .asked .ensures ∙ ap choice.asked (key-is t)
+
+chosen-is : (t : tie.After-choose) → t .choose .result ≡ coded (choice.chooseNamed (the-record t .opcode) (the-asked t))
+chosen-is t = t .choose .ensures ∙ ap₂ (λ k q. coded (choice.chooseNamed (k .opcode) q)) (key-is t) (asked-is t)
+
+chosen : (t : tie.After-choose) → t .choose .result .first ≢ 0 → choice.chooseNamed (the-record t .opcode) (the-asked t) ≡ code (t .choose .result .first) (t .choose .result .second)
+chosen t h =
+    let x = choice.chooseNamed (the-record t .opcode) (the-asked t) in
+    uncoded x (λ z. h (ap (λ c. c .first) (chosen-is t) ∙ z)) ∙ ap (λ c. code (c .first) (c .second)) (sym (chosen-is t))
+
 returns : tie.Need-returns
 returns c =
-    let chosen = c .before .before .before .before in
-    let k = chosen .before .args .k in
-    let r = c .say .ensures in
-    (r .0 ∙ ap (λ x. taken document01 (code (x .first) (x .second)) k) (chosen .choose .ensures) ∙ coded-taken (choice.choose k) k, r .1, r .2)
+    let t = c .before .before .before in
+    let x = choice.chooseNamed (the-record t .opcode) (the-asked t) in
+    let r = c .no-plan .ensures in
+    (r .0 ∙ not-chosen x (key (the-record t)) (ap (λ c. c .first) (sym (chosen-is t)) ∙ c .before .if1 .taken), r .1, r .2)
+
+cast-b : tie.Need-cast-b
+cast-b c =
+    let t = c .before .before .before in
+    record { fits = second-below (the-record t) (t .before .before .before .pre) (t .choose .result .first) (t .choose .result .second) (chosen t (c .before .if1 .left)) }
+
+-- the code's numbers, and what was made of them
+abbrev at : tie.After-fits2 → tie.After-choose
+at t = t .before .before .before .before
+
+abbrev a : tie.After-fits2 → ℕ
+a t = at t .choose .result .first
+
+abbrev b : tie.After-fits2 → ℕ
+b t = at t .choose .result .second
+
+the-code : (t : tie.After-fits2) → choice.chooseNamed (the-record (at t) .opcode) (the-asked (at t)) ≡ code (a t) (b t)
+the-code t = chosen (at t) (t .before .before .if1 .left)
+
+told : (t : tie.After-fits2) {x : Bool} → t .fits2 .result ≡ x → slots.fitting (faced.faceBy (the-asked (at t))) (key (the-record (at t))) ≡ x
+told t e = sym (t .fits2 .ensures ∙ (λ j. slots.fitting (faced.faceBy (asked-is (at t) j)) (key-is (at t) j))) ∙ e
 
 returns-2 : tie.Need-returns-2
 returns-2 c =
-    let chosen = c .before .before .before in
-    let k = chosen .before .args .k in
-    let r = c .no-plan .ensures in
-    (r .0 ∙ too-large (choice.choose k) k (subst (λ x. 256 ≤ x .second) (chosen .choose .ensures) (c .before .if1 .left)), r .1, r .2)
+    let t = c .before .before .before in
+    let r = c .plan-of .ensures in (
+      said-by (the-record (at t)) (at t .before .before .before .pre) (a t) (b t) (the-code t) (told t (c .before .before .if2 .taken)) (c .plan-of .result)
+          (r .0 ∙ (λ j. a t ∷ b t ∷ slots.slots (faced.faceBy (asked-is (at t) j)) (c .before .conditions .ensures .0 j) (key-is (at t) j))),
+      r .1,
+      r .2,
+    )
+
+returns-3 : tie.Need-returns-3
+returns-3 c =
+    let t = c .before .before in
+    let r = c .no-plan2 .ensures in
+    (r .0 ∙ not-said (the-record (at t)) (at t .before .before .before .pre) (a t) (b t) (the-code t) (told t (c .before .if2 .left)), r .1, r .2)
 
 pub find-spec : {M : Type 1} → statement M
-find-spec = tie.close (tie.spec (λ c κs. search needs) (λ c. search needs) (λ c κs. search needs) returns (λ c κs. search needs) returns-2)
+find-spec =
+    tie.close
+    (tie.spec (λ c κs. search needs) (λ c κs. search needs) (λ c κs. search needs) (λ c κs. search needs) returns cast-b (λ c κs. search needs) (λ c κs. search needs) (λ c κs. search needs) returns-2 (λ c κs. search needs) returns-3)

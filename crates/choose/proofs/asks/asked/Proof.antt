@@ -1,20 +1,23 @@
 -- `choose::asks::asked` meets its contract.
 -- Assumes nothing.
+use mathlib.Core.Path.{ap, _∙_}
 use borrow.Author.Needs.{needs}
+use lib.Dec.{ltb}
+use Rattle.shortest.specs.Choose as choice
 use Rattle.choose.proofs.asks.asked.Statement.{statement}
 use Rattle.choose.proofs.asks.asked.Tie as tie
 
 returns : tie.Need-returns
 returns c =
-    let k = c .before .before .before .before .before .before .before .before .before .args .k in
+    let second = c .before in
+    let first = second .before .before .before in
+    let start = first .before .before in
+    let k = start .before .args .k in
     λ j. record {
       size = k .size;
       width = k .width;
-      base0 = k .base0;
-      base1 = k .base1;
-      near0 = c .before .before .before .before .before .before .narrow .ensures j;
-      near1 = c .before .before .before .narrow2 .ensures j;
-      far0 = c .before .narrow3 .ensures j;
+      op0 = (first .narrow .ensures ∙ ap (λ z. choice.narrow (k .base0) z (ltb (k .number0) 256)) (start .zero-dropped .ensures)) j;
+      op1 = second .narrow2 .ensures j;
       number = c .whole-number .ensures j;
     }
 

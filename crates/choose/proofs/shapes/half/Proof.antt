@@ -1,7 +1,7 @@
 -- `choose::shapes::half` meets its contract.
 -- Assumes nothing.
 use Prim.Native.Nat.{_+_, _*_}
-use mathlib.Core.Path.{sym, ap, _∙_}
+use mathlib.Core.Path.{refl, sym, ap, _∙_}
 use borrow.Author.Needs.{needs}
 use Rattle.shortest.specs.Direct.{code}
 use Rattle.choose.specs.Coded.{coded}
@@ -15,8 +15,13 @@ returns c =
 
 returns-2 : tie.Need-returns-2
 returns-2 c =
-    let args = c .before .before .before .args in
-    rw (sym (c .before .before .same .ensures) ∙ c .before .if1 .left) (ap (λ n. coded (code 0x7C (16 * (8 + args .h) + n))) (c .code-g2 .ensures .0))
+    let second = c .before in
+    let args = second .before .before .before .before .args in
+    rw (sym (second .before .before .before .same .ensures) ∙ second .before .before .if1 .left)
+    (rw (sym (second .before .same2 .ensures) ∙ second .if2 .taken) (ap (λ n. coded (code 0x7C (16 * (8 + args .h) + n))) (c .code-g2 .ensures .0)))
+
+returns-3 : tie.Need-returns-3
+returns-3 c = rw (sym (c .before .before .before .same .ensures) ∙ c .before .before .if1 .left) (rw (sym (c .before .same2 .ensures) ∙ c .if2 .left) refl)
 
 pub half-spec : {M : Type 1} → statement M
-half-spec = tie.close (tie.spec (λ c κs. search needs) (λ c. search needs) (λ c κs. search needs) (λ c. search needs) returns (λ c. search needs) (λ c. search needs) (λ c κs. search needs) (λ c. search needs) returns-2)
+half-spec = tie.close (tie.spec (λ c κs. search needs) (λ c. search needs) (λ c κs. search needs) (λ c. search needs) returns (λ c κs. search needs) (λ c. search needs) (λ c. search needs) (λ c κs. search needs) (λ c. search needs) returns-2 returns-3)

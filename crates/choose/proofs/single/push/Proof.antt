@@ -12,7 +12,7 @@ use Rattle.choose.proofs.OrImm.{or-imm}
 use Rattle.choose.proofs.single.push.Statement.{statement}
 use Rattle.choose.proofs.single.push.Tie as tie
 
-by : (x : tie.Start) {b : Bool} → isWide (fieldOf (x .args .q .base0)) ≡ b → coded (pick b (choice.only 0x7C 0xE2 (x .args .q)) (choice.unary 0x74 4 (x .args .q))) ≡ coded (choice.chooseBy PUSH (x .args .q))
+by : (x : tie.Start) {b : Bool} → isWide (fieldOf (x .args .q .op0)) ≡ b → coded (pick b (choice.only 0x7C 0xE2 (x .args .q)) (choice.unary 0x74 4 (x .args .q))) ≡ coded (choice.chooseBy PUSH (x .args .q))
 unfolding choice.chooseBy
 by x = or-imm (choice.only 0x7C 0xE2 (x .args .q)) (choice.unary 0x74 4 (x .args .q)) (x .args .q)
 

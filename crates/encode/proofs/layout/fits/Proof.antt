@@ -1,23 +1,20 @@
 -- `encode::layout::fits` meets its contract.
 -- Assumes nothing.
-use mathlib.Core.Path.{refl}
-use Rattle.encode.proofs.Fit.{three-bytes}
+use mathlib.Core.Path.{ap, ap₂, _∙_}
+use lib.Dec.{ltb}
+use borrow.Author.Needs.{needs}
+use Rattle.tests.specs.Choice.{both}
+use Rattle.encode.specs.Slots as slots
 use Rattle.encode.proofs.layout.fits.Statement.{statement}
 use Rattle.encode.proofs.layout.fits.Tie as tie
 
 returns : tie.Need-returns
-returns c = rw (c .if1 .taken) refl
-
-returns-2 : tie.Need-returns-2
-returns-2 c = rw (c .if2 .taken) refl
-
-returns-3 : tie.Need-returns-3
-returns-3 c = rw (c .if3 .taken) refl
-
-returns-4 : tie.Need-returns-4
-returns-4 c =
-    let args = c .before .before .before .args in
-    three-bytes (args .n) (args .v) (c .before .before .if1 .left) (c .before .if2 .left) (c .if3 .left)
+unfolding slots.fitting
+returns c =
+    let second = c .before .before in
+    let first = second .before .before in
+    let k = first .before .args .k in
+    c .both .ensures ∙ ap₂ both (ap (ltb (k .number0)) (first .limit .ensures)) (ap (ltb (k .number1)) (second .limit2 .ensures))
 
 pub fits-spec : {M : Type 1} → statement M
-fits-spec = tie.close (tie.spec returns returns-2 returns-3 returns-4)
+fits-spec = tie.close (tie.spec (λ c κs. search needs) (λ c κs. search needs) (λ c κs. search needs) returns)

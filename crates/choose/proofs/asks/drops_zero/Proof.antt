@@ -1,0 +1,29 @@
+-- `choose::asks::drops_zero` meets its contract.
+-- Assumes nothing.
+use mathlib.Core.Path.{_≡_, refl, sym, ap, _∙_}
+use mathlib.Core.Bool.{Bool, true, false, not}
+use lib.Dec.{eqb}
+use borrow.Author.Needs.{needs}
+use borrow.Author.Tests.{eq-eqb, ne-eqb}
+use Rattle.tests.specs.Choice.{pick}
+use Rattle.record.specs.Numbers.{opcodeNo}
+use Rattle.shortest.specs.Choose.{dropsZero}
+use Rattle.choose.proofs.asks.drops_zero.Statement.{statement}
+use Rattle.choose.proofs.asks.drops_zero.Tie as tie
+
+is-not : (b : Bool) → not b ≡ pick b false true
+is-not true = refl
+is-not false = refl
+
+returns : tie.Need-returns
+unfolding dropsZero
+returns c = rw (eq-eqb _ _ (sym (c .before .opcode-number .ensures) ∙ c .if1 .taken)) refl
+
+returns-2 : tie.Need-returns-2
+unfolding dropsZero
+returns-2 c =
+    let n = c .before .opcode-number .ensures in
+    rw (ne-eqb _ _ (λ e. c .if1 .left (n ∙ e))) (ap (λ m. not (eqb m 77)) n ∙ is-not (eqb (opcodeNo (c .before .before .args .o)) 77))
+
+pub drops-zero-spec : {M : Type 1} → statement M
+drops-zero-spec = tie.close (tie.spec (λ c κs. search needs) returns returns-2)
