@@ -6,4 +6,5 @@ pub mod Behind
 pub mod All
 pub mod Counts
 pub mod Length
+pub mod Refusals
 pub mod Agree

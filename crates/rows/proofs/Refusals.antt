@@ -1,0 +1,49 @@
+-- What decoding refuses with, of any row table: a number up to 4, so that what says that a buffer is too small is no refusal of bytes.
+-- Assumes nothing.
+use Prim.Native.Nat.{ℕ, _≤_}
+use mathlib.Core.Bool.{Bool, true, false}
+use mathlib.Core.List.{List, [], _∷_}
+use native.Mathlib.Omega.{arith}
+use lib.ListN.{length, getD}
+use lib.Dec.{ltb}
+use Rattle.record.specs.declared.Answer.{Answer}
+use Rattle.record.specs.declared.Opcode.{Opcode}
+use Rattle.tests.specs.Choice.{pick}
+use Rattle.rows.specs.declared.Seen.{Seen}
+use Rattle.rows.specs.declared.Got.{Got}
+use Rattle.rows.specs.declared.Got.the-variants.{On, Short}
+use Rattle.rows.specs.Row.{InvalidOpcode, InvalidOperand, Read, num, cond, stop, Condition, is, isnt, Face, Table}
+use Rattle.rows.specs.Codes.{condOf}
+use Rattle.rows.specs.Run.{reading, andThen, judged, past, renamed, refusal, run, runRow, begun, decodeBy}
+
+abbrev Listed : Answer → Type 0
+Listed x = x .refusal ≤ 4
+
+picked : (t : Bool) (x y : Answer) → Listed x → Listed y → Listed (pick t x y)
+picked true x y h g = h
+picked false x y h g = g
+
+then-listed : (bs : List ℕ) (g : Got) (k : Seen → Answer) → ((s : Seen) → Listed (k s)) → Listed (andThen bs g k)
+then-listed bs (On s) k f = f s
+then-listed bs Short k f = omega arith
+
+judged-listed : (c : Condition) (s : Seen) (k : Opcode → Answer) → ((o : Opcode) → Listed (k o)) → Listed (judged c s k)
+judged-listed (is o) s k f = f o
+judged-listed isnt s k f = omega arith
+
+run-listed : (rs : List Read) (bs : List ℕ) (f : Face) (s : Seen) → Listed (run rs bs f s)
+unfolding run
+run-listed [] bs f s = omega arith
+run-listed (num k ∷ rs) bs f s = then-listed bs (reading k bs s) (run rs bs f) (run-listed rs bs f)
+run-listed (cond ∷ rs) bs f s =
+    picked (ltb (s .taken) (length bs)) _ _ (judged-listed (condOf (getD bs (s .taken) 0)) s _ (λ o. run-listed rs bs (renamed o f) (past s))) (omega arith)
+run-listed (stop InvalidOpcode ∷ rs) bs f s = omega arith
+run-listed (stop InvalidOperand ∷ rs) bs f s = omega arith
+
+module _ (t : Table) where
+  pub at-most-four : (bs : List ℕ) → decodeBy t bs .refusal ≤ 4
+  unfolding decodeBy runRow
+  at-most-four [] = omega arith
+  at-most-four (a ∷ []) = picked (t .known a) _ _ (omega arith) (omega arith)
+  at-most-four (a ∷ b ∷ bs) =
+      picked (t .known a) _ _ (run-listed (t .rowAt a b .reads) (a ∷ b ∷ bs) (t .rowAt a b .face) (begun (t .rowAt a b .number))) (omega arith)
