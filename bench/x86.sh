@@ -28,12 +28,12 @@ find_kit() {
 }
 
 # The crates of the port's functions for C. Each makes an archive of its own: docs/DECISIONS.md says why.
-c_crates="m16c m16c_encode m16c_sweep"
+c_crates="m16c m16c_encode m16c_sweep m16c_line"
 
-# Sets `library`, which has the functions that both programs call.
+# Sets `library`, which has each function for C.
 build_library() {
     find_or_make_library
-    for function in m16c_decode m16c_encode m16c_sweep; do
+    for function in m16c_decode m16c_encode m16c_sweep m16c_line; do
         grep -q "$function" "$library" || fail "the library has no function $function: $library"
     done
 }

@@ -1,0 +1,21 @@
+-- What m16c_line returns and leaves.
+use Prim.Native.Nat.{ℕ}
+use mathlib.Core.List.{List}
+use lib.ListN.{drop}
+use lib.Dec.{eqb}
+use Rattle.tests.specs.Choice.{pick}
+use Rattle.record.specs.declared.Answer.{Answer}
+use Rattle.rows.specs.Run.{decodeRows}
+use Rattle.text.specs.Line.{lineOf}
+use Rattle.text.specs.Left.{Left, left}
+
+-- a refusal, length 0, and every byte as it was
+abbrev pub untouched : ℕ → List ℕ → Left
+untouched e out = record { written = record { refusal = e; length = 0 }; buffer = out }
+
+-- an accepted place has its line in the listing; a refused one has none
+abbrev pub lineAt : ℕ → Answer → List ℕ → Left
+lineAt at x out = pick (eqb (x .refusal) 0) (left (lineOf at (x .inst)) out) (untouched (x .refusal) out)
+
+unfoldable pub lined : List ℕ → ℕ → List ℕ → Left
+lined image at out = lineAt at (decodeRows (drop at image)) out
