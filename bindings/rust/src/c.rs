@@ -1,0 +1,52 @@
+// The functions as C has them: a slice is a pointer and a length in elements, a lent number a pointer.
+// Made by scripts/interface from the crates of the functions: change those, not this.
+
+extern "C" {
+    /// Decodes at a place of an image. Returns the refusal, 0 for none, and fills twelve entries: taken, opcode, size, width, three
+    /// operands, imm_wide, dispabs, first, length, marked. With fewer than twelve entries it returns 6 and touches none.
+    pub fn m16c_decode(
+        image: *const u8, image_length: usize,
+        at: usize,
+        out: *mut u32, out_length: usize,
+    ) -> u32;
+
+    /// The starts of an image's instructions, from 0 to its end or the first refusal. Returns that refusal, 0 at the end, or 7 or 6, and
+    /// leaves how many starts were kept and where decoding stopped.
+    pub fn m16c_sweep(
+        image: *const u8, image_length: usize,
+        starts: *mut u16, starts_length: usize,
+        count: *mut usize,
+        place: *mut usize,
+    ) -> u32;
+
+    /// Encodes the record of twelve numbers, in the order that m16c_decode fills, from a place of a buffer on. Taken, length and marked do
+    /// not count. Returns 0 and leaves the length written, or 5 or 6 with length 0 and the buffer as it was.
+    pub fn m16c_encode(
+        numbers: *const u32, numbers_length: usize,
+        buf: *mut u8, buf_length: usize,
+        place: usize,
+        length: *mut usize,
+    ) -> u32;
+}
+
+// The types of the functions, for programs that pass them on.
+
+pub type Decode = unsafe extern "C" fn(
+    image: *const u8, image_length: usize,
+    at: usize,
+    out: *mut u32, out_length: usize,
+) -> u32;
+
+pub type Sweep = unsafe extern "C" fn(
+    image: *const u8, image_length: usize,
+    starts: *mut u16, starts_length: usize,
+    count: *mut usize,
+    place: *mut usize,
+) -> u32;
+
+pub type Encode = unsafe extern "C" fn(
+    numbers: *const u32, numbers_length: usize,
+    buf: *mut u8, buf_length: usize,
+    place: usize,
+    length: *mut usize,
+) -> u32;

@@ -1,0 +1,251 @@
+/* The library that ./m16c library builds, for x86-64: decoding, encoding, sweeping and listing part of the M16C/60 instruction set.
+ *
+ * Every function answers for every input, refused ones too. It asks one thing: a pointer and the length behind it, counted in elements,
+ * are memory to read (const) or to write, and what is written overlaps nothing else that is passed. A pointer whose length is 0 may be
+ * NULL; a pointer without a length may not.
+ *
+ * An instruction is a record of M16C_NUMBERS numbers; names are numbers too. The enumerators have the names as the listing spells them,
+ * in upper case: Disp8_A0 is M16C_OPERAND_DISP8_A0. The number that belongs to an operand is in IMM_WIDE or in DISPABS; where two
+ * operands need DISPABS, it has that of operand 0 if this is Disp8_SP, else that of operand 1, and FIRST has the other. MARKED is 1 where
+ * decoding departs from the maker's manual; no marked form is ever encoded. */
+#ifndef M16C_H
+#define M16C_H
+
+#include <stddef.h>
+#include <stdint.h>
+
+#ifdef __cplusplus
+extern "C" {
+#endif
+
+/* The longest image that is swept, the longest instruction, and room that is enough for every line, in bytes. */
+#define M16C_LONGEST_IMAGE 4096
+#define M16C_LONGEST_INSTRUCTION 7
+#define M16C_LONGEST_LINE 112
+
+/* Made by scripts/interface: names */
+/* What a function returns. */
+enum m16c_refusal {
+    M16C_ACCEPTED = 0, /* done */
+    M16C_EXHAUSTED_INPUT = 1, /* decoding: the image ends inside the instruction */
+    M16C_INVALID_OPCODE = 2, /* decoding: no instruction has this code */
+    M16C_INVALID_OPERAND = 3, /* decoding: the instruction does not take this operand */
+    M16C_FIRST_BYTE_OUTSIDE = 4, /* decoding: not one of the twelve first bytes that are decoded here */
+    M16C_NO_STRING = 5, /* encoding: no bytes decode to this instruction, but for those of marked rows */
+    M16C_TOO_LITTLE_ROOM = 6, /* what was lent to be written is too short */
+    M16C_IMAGE_TOO_LONG = 7 /* sweeping: the image is longer than 4,096 bytes */
+};
+
+/* The numbers of a record, by their index. */
+enum m16c_number {
+    M16C_TAKEN = 0,
+    M16C_OPCODE = 1,
+    M16C_SIZE = 2,
+    M16C_WIDTH = 3,
+    M16C_OP0 = 4,
+    M16C_OP1 = 5,
+    M16C_OP2 = 6,
+    M16C_IMM_WIDE = 7,
+    M16C_DISPABS = 8,
+    M16C_FIRST = 9,
+    M16C_LENGTH = 10,
+    M16C_MARKED = 11,
+    M16C_NUMBERS = 12
+};
+
+/* The width that decoding starts with, by the first byte. */
+enum m16c_width {
+    M16C_WIDTH_NONE = 0,
+    M16C_WIDTH_B = 1,
+    M16C_WIDTH_W = 2
+};
+
+/* The size that an opcode carries. */
+enum m16c_size {
+    M16C_SIZE_NONE = 0,
+    M16C_SIZE_B = 1,
+    M16C_SIZE_W = 2,
+    M16C_SIZE_L = 3
+};
+
+enum m16c_opcode {
+    M16C_OPCODE_NOP = 0,
+    M16C_OPCODE_ABS = 1,
+    M16C_OPCODE_ADC = 2,
+    M16C_OPCODE_ADCF = 3,
+    M16C_OPCODE_ADD = 4,
+    M16C_OPCODE_AND = 5,
+    M16C_OPCODE_BAND = 6,
+    M16C_OPCODE_BCLR = 7,
+    M16C_OPCODE_BMEQ = 8,
+    M16C_OPCODE_BMGEU = 9,
+    M16C_OPCODE_BMGT = 10,
+    M16C_OPCODE_BMGTU = 11,
+    M16C_OPCODE_BMLE = 12,
+    M16C_OPCODE_BMLEU = 13,
+    M16C_OPCODE_BMLTU = 14,
+    M16C_OPCODE_BMLT = 15,
+    M16C_OPCODE_BMNO = 16,
+    M16C_OPCODE_BMGE = 17,
+    M16C_OPCODE_BMN = 18,
+    M16C_OPCODE_BMNE = 19,
+    M16C_OPCODE_BMO = 20,
+    M16C_OPCODE_BMPZ = 21,
+    M16C_OPCODE_BNAND = 22,
+    M16C_OPCODE_BNOR = 23,
+    M16C_OPCODE_BNOT = 24,
+    M16C_OPCODE_BNTST = 25,
+    M16C_OPCODE_BNXOR = 26,
+    M16C_OPCODE_BOR = 27,
+    M16C_OPCODE_BSET = 28,
+    M16C_OPCODE_BTST = 29,
+    M16C_OPCODE_BTSTC = 30,
+    M16C_OPCODE_BTSTS = 31,
+    M16C_OPCODE_BXOR = 32,
+    M16C_OPCODE_CMP = 33,
+    M16C_OPCODE_DADC = 34,
+    M16C_OPCODE_DADD = 35,
+    M16C_OPCODE_DIV = 36,
+    M16C_OPCODE_DIVU = 37,
+    M16C_OPCODE_DIVX = 38,
+    M16C_OPCODE_DSBB = 39,
+    M16C_OPCODE_DSUB = 40,
+    M16C_OPCODE_ENTER = 41,
+    M16C_OPCODE_EXITD = 42,
+    M16C_OPCODE_EXTS = 43,
+    M16C_OPCODE_FCLR = 44,
+    M16C_OPCODE_FSET = 45,
+    M16C_OPCODE_GE = 46,
+    M16C_OPCODE_INT = 47,
+    M16C_OPCODE_JGE = 48,
+    M16C_OPCODE_JGT = 49,
+    M16C_OPCODE_JLE = 50,
+    M16C_OPCODE_JLT = 51,
+    M16C_OPCODE_JMPI = 52,
+    M16C_OPCODE_JNO = 53,
+    M16C_OPCODE_JO = 54,
+    M16C_OPCODE_JSRI = 55,
+    M16C_OPCODE_LDC = 56,
+    M16C_OPCODE_LDCTX = 57,
+    M16C_OPCODE_LDE = 58,
+    M16C_OPCODE_LDIPL = 59,
+    M16C_OPCODE_LT = 60,
+    M16C_OPCODE_MOV = 61,
+    M16C_OPCODE_MOVA = 62,
+    M16C_OPCODE_MOVHH = 63,
+    M16C_OPCODE_MOVHL = 64,
+    M16C_OPCODE_MOVLH = 65,
+    M16C_OPCODE_MOVLL = 66,
+    M16C_OPCODE_MUL = 67,
+    M16C_OPCODE_MULU = 68,
+    M16C_OPCODE_NEG = 69,
+    M16C_OPCODE_NO = 70,
+    M16C_OPCODE_NOT = 71,
+    M16C_OPCODE_OR = 72,
+    M16C_OPCODE_POP = 73,
+    M16C_OPCODE_POPC = 74,
+    M16C_OPCODE_POPM = 75,
+    M16C_OPCODE_PUSH = 76,
+    M16C_OPCODE_PUSHA = 77,
+    M16C_OPCODE_PUSHC = 78,
+    M16C_OPCODE_PUSHM = 79,
+    M16C_OPCODE_RMPA = 80,
+    M16C_OPCODE_ROLC = 81,
+    M16C_OPCODE_RORC = 82,
+    M16C_OPCODE_ROT = 83,
+    M16C_OPCODE_SBB = 84,
+    M16C_OPCODE_SHA = 85,
+    M16C_OPCODE_SHL = 86,
+    M16C_OPCODE_SMOVB = 87,
+    M16C_OPCODE_SMOVF = 88,
+    M16C_OPCODE_SSTR = 89,
+    M16C_OPCODE_STC = 90,
+    M16C_OPCODE_STCTX = 91,
+    M16C_OPCODE_STE = 92,
+    M16C_OPCODE_SUB = 93,
+    M16C_OPCODE_TST = 94,
+    M16C_OPCODE_WAIT = 95,
+    M16C_OPCODE_XCHG = 96,
+    M16C_OPCODE_XOR = 97
+};
+
+enum m16c_operand {
+    M16C_OPERAND_NOTHING = 0,
+    M16C_OPERAND_IMM4 = 1,
+    M16C_OPERAND_IMM8 = 2,
+    M16C_OPERAND_IMM16 = 3,
+    M16C_OPERAND_R0L = 4,
+    M16C_OPERAND_R0H = 5,
+    M16C_OPERAND_R1L = 6,
+    M16C_OPERAND_R1H = 7,
+    M16C_OPERAND_R0 = 8,
+    M16C_OPERAND_R1 = 9,
+    M16C_OPERAND_R2 = 10,
+    M16C_OPERAND_R3 = 11,
+    M16C_OPERAND_R2R0 = 12,
+    M16C_OPERAND_R3R1 = 13,
+    M16C_OPERAND_A0 = 14,
+    M16C_OPERAND_A1 = 15,
+    M16C_OPERAND_A1A0 = 16,
+    M16C_OPERAND_BIT_R0 = 17,
+    M16C_OPERAND_BIT_R1 = 18,
+    M16C_OPERAND_BIT_R2 = 19,
+    M16C_OPERAND_BIT_R3 = 20,
+    M16C_OPERAND_BIT_A0 = 21,
+    M16C_OPERAND_BIT_A1 = 22,
+    M16C_OPERAND_BIT_DEREF_A0 = 23,
+    M16C_OPERAND_BIT_DEREF_A1 = 24,
+    M16C_OPERAND_BIT_DISP8_A0 = 25,
+    M16C_OPERAND_BIT_DISP8_A1 = 26,
+    M16C_OPERAND_BIT_DISP8_SB = 27,
+    M16C_OPERAND_BIT_DISP8_FB = 28,
+    M16C_OPERAND_BIT_DISP16_A0 = 29,
+    M16C_OPERAND_BIT_DISP16_A1 = 30,
+    M16C_OPERAND_BIT_DISP16_SB = 31,
+    M16C_OPERAND_BIT_ABS16 = 32,
+    M16C_OPERAND_DISP8_A0 = 33,
+    M16C_OPERAND_DISP8_A1 = 34,
+    M16C_OPERAND_DISP8_SB = 35,
+    M16C_OPERAND_DISP8_FB = 36,
+    M16C_OPERAND_DISP8_SP = 37,
+    M16C_OPERAND_DISP16_A0 = 38,
+    M16C_OPERAND_DISP16_A1 = 39,
+    M16C_OPERAND_DISP16_SB = 40,
+    M16C_OPERAND_DISP20_A0 = 41,
+    M16C_OPERAND_DISP20_A1 = 42,
+    M16C_OPERAND_DEREF_A0 = 43,
+    M16C_OPERAND_DEREF_A1 = 44,
+    M16C_OPERAND_DEREF_A1A0 = 45,
+    M16C_OPERAND_ABS16 = 46,
+    M16C_OPERAND_ABS20 = 47,
+    M16C_OPERAND_DISP8 = 48,
+    M16C_OPERAND_REGLIST = 49,
+    M16C_OPERAND_INTBL = 50,
+    M16C_OPERAND_INTBH = 51,
+    M16C_OPERAND_FLG = 52,
+    M16C_OPERAND_ISP = 53,
+    M16C_OPERAND_SP = 54,
+    M16C_OPERAND_SB = 55,
+    M16C_OPERAND_FB = 56
+};
+/* End of what is made */
+
+/* Made by scripts/interface: functions */
+/* Decodes at a place of an image. Returns the refusal, 0 for none, and fills twelve entries: taken, opcode, size, width, three
+ * operands, imm_wide, dispabs, first, length, marked. With fewer than twelve entries it returns 6 and touches none. */
+uint32_t m16c_decode(const uint8_t *image, size_t image_length, size_t at, uint32_t *out, size_t out_length);
+
+/* The starts of an image's instructions, from 0 to its end or the first refusal. Returns that refusal, 0 at the end, or 7 or 6, and
+ * leaves how many starts were kept and where decoding stopped. */
+uint32_t m16c_sweep(const uint8_t *image, size_t image_length, uint16_t *starts, size_t starts_length, size_t *count, size_t *place);
+
+/* Encodes the record of twelve numbers, in the order that m16c_decode fills, from a place of a buffer on. Taken, length and marked do
+ * not count. Returns 0 and leaves the length written, or 5 or 6 with length 0 and the buffer as it was. */
+uint32_t m16c_encode(const uint32_t *numbers, size_t numbers_length, uint8_t *buf, size_t buf_length, size_t place, size_t *length);
+/* End of what is made */
+
+#ifdef __cplusplus
+}
+#endif
+
+#endif
