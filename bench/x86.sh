@@ -1,4 +1,4 @@
-# Sourced by bench/run and oracle/run: x86-64 programs that hold both the port and the Rust, on x86-64 and on Arm.
+# Sourced by the scripts that build x86-64 programs with the port in them, on x86-64 and on Arm.
 # They set `me`, their name in messages, and `repo`, the root of the repository, before.
 # The environment may set
 #   BENCH_ROOT     a folder to keep downloads in (default target/bench/root, which `rt ci` removes)
@@ -13,9 +13,13 @@ fail() {
     exit 2
 }
 
+has() {
+    command -v "$1" >/dev/null 2>&1
+}
+
 need() {
     for tool; do
-        command -v "$tool" >/dev/null 2>&1 || fail "$tool is missing"
+        has "$tool" || fail "$tool is missing"
     done
 }
 
@@ -93,9 +97,15 @@ write_script() {
     chmod +x "$1"
 }
 
-# Writes the commands `rustc-x86` and `rustc-own` into `work`: Debian's Rust for x86-64 and for this machine.
-write_rust_commands() {
-    # Rust's std for x86-64 comes without an x86-64 C library to link; the kit has one, and a linker that runs here.
+# Writes into `work` the commands `link-x86`, which links as a C compiler does, by the kit's linker with its C library for x86-64, and
+# `run-x86`, which runs what was so linked, under the kit's emulator where the kit has one.
+write_kit_commands() {
+    emulator=$tools/bin/qemu-x86_64
+    [ -x "$emulator" ] || emulator=
+    write_script "$work/run-x86" <<SCRIPT
+#!/bin/sh
+exec ${emulator:+'$emulator'} '$tools/lib/ld-linux-x86-64.so.2' --library-path '$tools/lib' "\$@"
+SCRIPT
     write_script "$work/link-x86" <<SCRIPT
 #!/bin/sh
 n=\$#
@@ -111,20 +121,59 @@ lib='$tools/lib'
 exec '$tools/bin/ld.lld' -pie -dynamic-linker /lib64/ld-linux-x86-64.so.2 "\$lib/Scrt1.o" "\$lib/crti.o" "\$lib/crtbeginS.o" "\$@" \\
     "\$lib/libc.so.6" "\$lib/libc_nonshared.a" "\$lib/libgcc_s.so.1" "\$lib/libm.so.6" "\$lib/libgcc.a" "\$lib/crtendS.o" "\$lib/crtn.o"
 SCRIPT
+}
+
+# Writes the commands `rustc-x86`, `rustdoc-x86` and `rustc-own` into `work`: Debian's Rust for x86-64 and for this machine.
+write_rust_commands() {
+    write_kit_commands
     write_script "$work/rustc-own" <<SCRIPT
 #!/bin/sh
 LD_LIBRARY_PATH='$root_libs' exec '$root/usr/bin/rustc' "\$@"
 SCRIPT
-    write_script "$work/rustc-x86" <<SCRIPT
+    for tool in rustc rustdoc; do
+        write_script "$work/$tool-x86" <<SCRIPT
 #!/bin/sh
-exec '$work/rustc-own' --target x86_64-unknown-linux-gnu -C target-cpu=x86-64 -C linker='$work/link-x86' "\$@"
+LD_LIBRARY_PATH='$root_libs' exec '$root/usr/bin/$tool' --target x86_64-unknown-linux-gnu -C target-cpu=x86-64 -C linker='$work/link-x86' "\$@"
 SCRIPT
+    done
 }
 
 # Everything that programs of `rustc-x86` need.
 prepare_x86() {
     fetch_rust
     write_rust_commands
+}
+
+# Sets `rustc`, `rustdoc` and `launcher`, which runs what they make: on x86-64 the installed Rust, where there is one.
+choose_rust() {
+    if [ "$machine" = x86_64 ] && has rustc && has cc; then
+        rustc=rustc
+        rustdoc=rustdoc
+        launcher=
+        return
+    fi
+    prepare_x86
+    rustc=$work/rustc-x86
+    rustdoc=$work/rustdoc-x86
+    launcher=$work/run-x86
+}
+
+# Compiles C to PROGRAM and sets `launcher`: on x86-64 by the installed compiler; elsewhere the kit's has no headers and takes this
+# machine's, which are the same for what C itself has.
+compile_c() {
+    program=$1
+    shift
+    if [ "$machine" = x86_64 ] && has cc; then
+        cc "$@" "$library" -o "$program"
+        launcher=
+        return
+    fi
+    need gcc
+    write_kit_commands
+    "$tools/bin/clang" --target=x86_64-unknown-linux-gnu -fPIC -nostdinc -isystem "$(gcc -print-file-name=include)" \
+        -isystem "/usr/include/$machine-linux-gnu" -isystem /usr/include -c "$@" -o "$program.o"
+    "$work/link-x86" "$program.o" "$library" -o "$program"
+    launcher=$work/run-x86
 }
 
 qemu() {

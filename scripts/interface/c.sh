@@ -9,9 +9,14 @@ header() {
             print
             while ((getline line < (out "/" $5)) > 0) print line
             made = 1
+            parts++
         }
         /^\/\* End of what is made \*\/$/ { made = 0 }
-        !made' "$repo/include/m16c.h"
+        !made
+        END { exit parts != 2 }' "$repo/include/m16c.h" || {
+        echo "include/m16c.h does not have the two parts that scripts/interface makes" >&2
+        exit 1
+    }
 }
 
 c_names() {
