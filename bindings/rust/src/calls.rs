@@ -1,0 +1,66 @@
+use core::error::Error;
+use core::fmt;
+
+use crate::c;
+use crate::instruction::Numbers;
+use crate::names::index;
+use crate::{Instruction, Refusal};
+
+/// Why a number of the library's can have no name here: its header and these names are made from the same sources.
+pub(crate) const OTHER_LIBRARY: &str = "the library that is linked is not of this version";
+
+/// A place where decoding refuses. Shown as the listing shows it: `000C REFUSED 2 TAKEN 2`.
+#[derive(Debug, Clone, Copy, PartialEq, Eq)]
+pub struct Refused {
+    pub place: usize,
+    pub refusal: Refusal,
+    /// How many bytes were read until it was clear.
+    pub taken: usize,
+}
+
+/// Decodes the instruction at a place of an image. A place past the end is an image that ends there.
+pub fn decode(image: &[u8], at: usize) -> Result<Instruction, Refused> {
+    let mut numbers: Numbers = [0; index::NUMBERS];
+    // Sound: both are slices, passed with their own lengths and borrowed for the call.
+    let returned = unsafe { c::m16c_decode(image.as_ptr(), image.len(), at, numbers.as_mut_ptr(), numbers.len()) };
+    match accepted(returned) {
+        Ok(()) => Ok(Instruction::from_numbers(&numbers).expect(OTHER_LIBRARY)),
+        Err(refusal) => Err(Refused { place: at, refusal, taken: numbers[index::TAKEN] as usize }),
+    }
+}
+
+/// Writes the shortest bytes that decode to the same instruction, of these the first in byte order, from a place of a buffer on. Returns
+/// how many were written; nothing else is touched, and nothing at all on refusal. What the instruction says of `length` and `marked`
+/// does not count.
+pub fn encode(instruction: &Instruction, buf: &mut [u8], place: usize) -> Result<usize, Refusal> {
+    let numbers = instruction.numbers();
+    let mut length = 0;
+    // Sound: as above, and `length` is a number of ours.
+    let returned =
+        unsafe { c::m16c_encode(numbers.as_ptr(), numbers.len(), buf.as_mut_ptr(), buf.len(), place, &mut length) };
+    accepted(returned).map(|()| length)
+}
+
+/// What a function of the library returned.
+pub(crate) fn accepted(returned: u32) -> Result<(), Refusal> {
+    match returned {
+        0 => Ok(()),
+        number => Err(Refusal::from_number(number).expect(OTHER_LIBRARY)),
+    }
+}
+
+impl fmt::Display for Refusal {
+    fn fmt(&self, f: &mut fmt::Formatter) -> fmt::Result {
+        write!(f, "REFUSED {}", self.number())
+    }
+}
+
+impl fmt::Display for Refused {
+    fn fmt(&self, f: &mut fmt::Formatter) -> fmt::Result {
+        write!(f, "{:04X} {} TAKEN {}", self.place & 0xFFFF, self.refusal, self.taken)
+    }
+}
+
+impl Error for Refusal {}
+
+impl Error for Refused {}

@@ -1,0 +1,124 @@
+use crate::names::index;
+use crate::{Opcode, OperandSpec, Size, Width};
+
+/// A record as the library has it.
+pub(crate) type Numbers = [u32; index::NUMBERS];
+
+/// A decoded instruction, or one to be encoded.
+#[derive(Debug, Clone, Copy, PartialEq, Eq, Hash)]
+pub struct Instruction {
+    /// The opcode, with the size that it carries.
+    pub opcode: Opcode,
+    /// By the first byte. It counts: opcodes that carry no size mean another instruction at another width.
+    pub width: Width,
+    pub operands: [OperandSpec; 3],
+    pub imm_wide: u32,
+    pub dispabs: u16,
+    /// The displacement that was read before the one in `dispabs`, where two were.
+    pub first: u16,
+    pub length: u8,
+    /// Whether decoding departs from the maker's manual here.
+    pub marked: bool,
+}
+
+/// An operand with the number that belongs to it, if its form has one.
+#[derive(Debug, Clone, Copy, PartialEq, Eq, Hash)]
+pub struct Operand {
+    pub spec: OperandSpec,
+    pub number: Option<u32>,
+}
+
+impl Default for Instruction {
+    /// The blank record.
+    fn default() -> Self {
+        Instruction {
+            opcode: Opcode::NOP,
+            width: Width::None,
+            operands: [OperandSpec::Nothing; 3],
+            imm_wide: 0,
+            dispabs: 0,
+            first: 0,
+            length: 0,
+            marked: false,
+        }
+    }
+}
+
+impl Instruction {
+    /// Operand 0, 1 or 2; none if there is none.
+    pub fn operand(&self, index: usize) -> Option<Operand> {
+        let spec = *self.operands.get(index)?;
+        let number = match number_of(spec) {
+            Number::None => None,
+            Number::ImmWide => Some(self.imm_wide),
+            Number::Dispabs if Some(index) == self.operand_of_first() => Some(u32::from(self.first)),
+            Number::Dispabs => Some(u32::from(self.dispabs)),
+        };
+        (spec != OperandSpec::Nothing).then_some(Operand { spec, number })
+    }
+
+    /// Where operands 0 and 1 both need `dispabs`, the one whose number is in `first`.
+    fn operand_of_first(&self) -> Option<usize> {
+        let [op0, op1, _] = self.operands;
+        let both = number_of(op0) == Number::Dispabs && number_of(op1) == Number::Dispabs;
+        both.then_some(if op0 == OperandSpec::Disp8_SP { 1 } else { 0 })
+    }
+
+    /// None if the numbers are those of no instruction.
+    pub(crate) fn from_numbers(numbers: &Numbers) -> Option<Self> {
+        let size = match numbers[index::SIZE] {
+            0 => None,
+            number => Some(Size::from_number(number)?),
+        };
+        let operand = |index: usize| OperandSpec::from_number(numbers[index]);
+        Some(Instruction {
+            opcode: Opcode::from_number(numbers[index::OPCODE], size)?,
+            width: Width::from_number(numbers[index::WIDTH])?,
+            operands: [operand(index::OP0)?, operand(index::OP1)?, operand(index::OP2)?],
+            imm_wide: numbers[index::IMM_WIDE],
+            dispabs: numbers[index::DISPABS].try_into().ok()?,
+            first: numbers[index::FIRST].try_into().ok()?,
+            length: numbers[index::LENGTH].try_into().ok()?,
+            marked: numbers[index::MARKED] != 0,
+        })
+    }
+
+    /// What counts for an encoder; the rest is 0.
+    pub(crate) fn numbers(&self) -> Numbers {
+        let mut numbers = [0; index::NUMBERS];
+        numbers[index::OPCODE] = self.opcode.number();
+        numbers[index::SIZE] = self.opcode.size().map_or(0, Size::number);
+        numbers[index::WIDTH] = self.width.number();
+        numbers[index::OP0] = self.operands[0].number();
+        numbers[index::OP1] = self.operands[1].number();
+        numbers[index::OP2] = self.operands[2].number();
+        numbers[index::IMM_WIDE] = self.imm_wide;
+        numbers[index::DISPABS] = u32::from(self.dispabs);
+        numbers[index::FIRST] = u32::from(self.first);
+        numbers
+    }
+}
+
+/// Where a form of operand has its number.
+#[derive(PartialEq, Eq)]
+enum Number {
+    None,
+    ImmWide,
+    Dispabs,
+}
+
+fn number_of(spec: OperandSpec) -> Number {
+    use OperandSpec::*;
+    match spec {
+        Imm4 | Imm8 | Imm16 | Abs20 | Disp20_A0 | Disp20_A1 | Disp8 | RegList => Number::ImmWide,
+        Disp8_A0 | Disp8_A1 | Disp8_SB | Disp8_FB | Disp8_SP | Disp16_A0 | Disp16_A1 | Disp16_SB | Abs16 => {
+            Number::Dispabs
+        }
+        Bit_R0 | Bit_R1 | Bit_R2 | Bit_R3 | Bit_A0 | Bit_A1 => Number::Dispabs,
+        Bit_Disp8_A0 | Bit_Disp8_A1 | Bit_Disp8_SB | Bit_Disp8_FB => Number::Dispabs,
+        Bit_Disp16_A0 | Bit_Disp16_A1 | Bit_Disp16_SB | Bit_Abs16 => Number::Dispabs,
+        Bit_Deref_A0 | Bit_Deref_A1 | Deref_A0 | Deref_A1 | Deref_A1A0 => Number::None,
+        R0L | R0H | R1L | R1H | R0 | R1 | R2 | R3 | R2R0 | R3R1 | A0 | A1 | A1A0 => Number::None,
+        INTBL | INTBH | FLG | ISP | SP | SB | FB | Nothing => Number::None,
+    }
+}

@@ -1,0 +1,116 @@
+//! The lines that document 01 gives, and a case of every refusal.
+
+use m16c::{decode, encode, line, sweep, Instruction, Opcode, OperandSpec, Refusal, Refused, Size, Width};
+
+fn accepted(bytes: &[u8]) -> Instruction {
+    decode(bytes, 0).unwrap_or_else(|refused| panic!("{bytes:X?}: {refused}"))
+}
+
+fn refused(bytes: &[u8]) -> (u32, usize) {
+    let Refused { place, refusal, taken } = decode(bytes, 0).expect_err("a refusal");
+    assert_eq!(place, 0);
+    (refusal.number(), taken)
+}
+
+fn encoded(bytes: &[u8]) -> Vec<u8> {
+    let mut buffer = [0; m16c::LONGEST_INSTRUCTION];
+    let length = encode(&accepted(bytes), &mut buffer, 0).expect("an encoding");
+    buffer[..length].to_vec()
+}
+
+#[test]
+fn accepted_lines() {
+    assert_eq!(
+        accepted(&[0x74, 0x0F, 0x34, 0x12, 0x89, 0x67, 0xF5]),
+        Instruction {
+            opcode: Opcode::STE,
+            width: Width::B,
+            operands: [OperandSpec::Abs16, OperandSpec::Abs20, OperandSpec::Nothing],
+            imm_wide: 0x56789,
+            dispabs: 0x1234,
+            first: 0,
+            length: 7,
+            marked: false,
+        }
+    );
+    let rotated = accepted(&[0x75, 0x63]);
+    assert_eq!(rotated.opcode, Opcode::ROT(Size::W));
+    assert_eq!(rotated.operands, [OperandSpec::R1H, OperandSpec::R3, OperandSpec::Nothing]);
+    let multiplied = accepted(&[0x78, 0x89, 0x10, 0x20]);
+    assert_eq!((multiplied.first, multiplied.dispabs), (0x10, 0x20));
+    assert_eq!(accepted(&[0x7E, 0x20, 0x05, 0x06]).opcode, Opcode::BMGE);
+    assert_eq!(accepted(&[0x7D, 0xA5]).imm_wide, 0xFFFF_FFFD);
+}
+
+#[test]
+fn refused_lines() {
+    assert_eq!(refused(&[]), (1, 0));
+    assert_eq!(refused(&[0x04]), (4, 1));
+    assert_eq!(refused(&[0x74, 0x0F, 0x34, 0x12, 0x89, 0x67]), (1, 6));
+    assert_eq!(refused(&[0x74, 0x63]), (3, 2));
+    assert_eq!(refused(&[0x78, 0x83]), (1, 2));
+    assert_eq!(refused(&[0x78, 0x83, 0x10]), (3, 3));
+    assert_eq!(refused(&[0x7B, 0x88]), (3, 2));
+    assert_eq!(refused(&[0x7A, 0x88]), (1, 2));
+    assert_eq!(refused(&[0x7E, 0x20, 0x05, 0x07]), (2, 4));
+}
+
+#[test]
+fn encoded_lines() {
+    assert_eq!(encoded(&[0x74, 0x5C, 0x00, 0x00]), [0x74, 0x56]);
+    assert_eq!(encoded(&[0xEB, 0x0C, 0x00, 0x00]), [0xEB, 0x08, 0x00]);
+    assert_eq!(encoded(&[0x74, 0x7E, 0xFF, 0x00]), [0x74, 0x7A, 0xFF]);
+    assert_eq!(encoded(&[0x74, 0x7E, 0x00, 0x01]), [0x74, 0x7E, 0x00, 0x01]);
+    assert_eq!(encoded(&[0x7D, 0x0C, 0x10, 0x00, 0x00]), [0x7D, 0x0C, 0x10, 0x00, 0x00]);
+}
+
+#[test]
+fn decoding_refused() {
+    let image = [0xEB, 0xC5, 0x7E, 0xE0];
+    let there = Refused { place: 2, refusal: Refusal::InvalidOpcode, taken: 2 };
+    assert_eq!(decode(&image, 2), Err(there));
+    assert_eq!(there.to_string(), "0002 REFUSED 2 TAKEN 2");
+    for past in [4, 5, usize::MAX] {
+        assert_eq!(decode(&image, past), Err(Refused { place: past, refusal: Refusal::ExhaustedInput, taken: 0 }));
+    }
+}
+
+#[test]
+fn encoding_refused() {
+    const UNTOUCHED: [u8; 4] = [0xA1, 0xB2, 0xC3, 0xD4];
+    let mut buffer = UNTOUCHED;
+    // Blank, and one that only a marked row decodes to.
+    for unsayable in [Instruction::default(), accepted(&[0x7D, 0xA5])] {
+        assert_eq!(encode(&unsayable, &mut buffer, 0), Err(Refusal::NoString));
+    }
+    let jump = accepted(&[0x7D, 0xC8, 0x05]);
+    for place in [2, 3, 4, 5, usize::MAX] {
+        assert_eq!(encode(&jump, &mut buffer, place), Err(Refusal::TooLittleRoom));
+    }
+    assert_eq!(encode(&jump, &mut [], 0), Err(Refusal::TooLittleRoom));
+    assert_eq!(buffer, UNTOUCHED);
+    assert_eq!(encode(&jump, &mut buffer, 1), Ok(3));
+    assert_eq!(buffer, [0xA1, 0x7D, 0xC8, 0x05]);
+}
+
+#[test]
+fn sweeping_refused() {
+    const UNTOUCHED: [u16; 4097] = [0xDEAD; 4097];
+    let image = [0xEB; 4097];
+    let mut starts = UNTOUCHED;
+    assert_eq!(sweep(&image, &mut starts).err(), Some(Refusal::ImageTooLong));
+    assert_eq!(sweep(&image, &mut []).err(), Some(Refusal::ImageTooLong));
+    assert_eq!(sweep(&image[..9], &mut starts[..8]).err(), Some(Refusal::TooLittleRoom));
+    assert_eq!(starts, UNTOUCHED);
+    assert_eq!(Refusal::ImageTooLong.to_string(), "REFUSED 7");
+}
+
+#[test]
+fn lines_refused() {
+    let image = [0xEB, 0xC5, 0x7E, 0xE0];
+    assert_eq!(line(&image, 0).expect("a line").as_str(), "0000 2 - INT Imm8=05");
+    assert_eq!(line(&image, 2).err(), Some(Refusal::InvalidOpcode));
+    assert_eq!(line(&image, 4).err(), Some(Refusal::ExhaustedInput));
+    assert_eq!(line(&[0x74, 0x63], 0).err(), Some(Refusal::InvalidOperand));
+    assert_eq!(line(&[0x04], 0).err(), Some(Refusal::FirstByteOutside));
+}
