@@ -2,11 +2,15 @@
 // usage: bench count   marks each measurement for the counting plugin (count.c), which prints the counts
 //        bench time    prints a line a measurement: label, units, nanoseconds
 
+#[path = "../bindings/rust/src/c.rs"]
+mod c;
+
 use std::env;
 use std::hint::black_box;
 use std::process::ExitCode;
 use std::time::Instant;
 
+use c::{m16c_decode, m16c_encode, m16c_line, m16c_sweep, Decode, Encode, Line, Sweep};
 use peer_call::{at_each, nothing_decoded, nothing_encoded, rust_decode, Record};
 use peer_loop::rust_decode_at_each;
 use peer_sweep_call::rust_sweep as rust_sweep_call;
@@ -18,32 +22,12 @@ const LONGEST: usize = 7;
 const SEED: u64 = 0x9E37_79B9_7F4A_7C15;
 
 const LONGEST_SWEPT: usize = 4096;
+const LONGEST_LINE: usize = 112;
 // Numbers of a record that the Rust does not have.
 const FIRST: usize = 9;
 const MARKED: usize = 11;
 
-type Decode = unsafe extern "C" fn(*const u8, usize, usize, *mut u32, usize) -> u32;
-type Encode = unsafe extern "C" fn(*const u32, usize, *mut u8, usize, usize, *mut usize) -> u32;
-type Sweep = unsafe extern "C" fn(*const u8, usize, *mut u16, usize, *mut usize, *mut usize) -> u32;
-
 extern "C" {
-    fn m16c_decode(image: *const u8, image_len: usize, at: usize, out: *mut u32, out_len: usize) -> u32;
-    fn m16c_encode(
-        record: *const u32,
-        record_len: usize,
-        buf: *mut u8,
-        buf_len: usize,
-        place: usize,
-        length: *mut usize,
-    ) -> u32;
-    fn m16c_sweep(
-        image: *const u8,
-        image_len: usize,
-        starts: *mut u16,
-        starts_len: usize,
-        count: *mut usize,
-        place: *mut usize,
-    ) -> u32;
     fn syscall(number: i64, first: i64, ...) -> i64;
 }
 
@@ -65,9 +49,10 @@ struct Out {
     starts: Vec<u16>,
     count: usize,
     stop: usize,
+    line: [u8; LONGEST_LINE],
 }
 
-/// One way of doing a task over a workload. bench/run takes `empty_loop` off the others of the task, `decode_loop` off `decode`.
+/// One way of doing a task over a workload. bench/table.awk takes `empty_loop` off the others of the task, `decode_loop` off `decode`.
 struct Way {
     name: &'static str,
     run: fn(&Workload, &mut Out),
@@ -81,7 +66,7 @@ struct Task {
     ways: &'static [Way],
 }
 
-// Another task is another entry: its ways under the names that bench/run has columns for.
+// Another task is another entry: its ways under the names that bench/table.awk knows.
 const TASKS: &[Task] = &[
     Task {
         name: "decode",
@@ -118,13 +103,22 @@ const TASKS: &[Task] = &[
             Way { name: "rust_loop", run: |work, out| sweep_each(rust_sweep_loop, work, out) },
         ],
     },
+    Task {
+        name: "line",
+        takes: |_| true,
+        whole_images: false,
+        ways: &[
+            Way { name: "empty_loop", run: |work, out| at_each(places(work), out, |_, _| ()) },
+            Way { name: "rattle", run: |work, out| list_each(m16c_line, work, out) },
+        ],
+    },
 ];
 
 fn places(work: &Workload) -> impl Iterator<Item = u32> + '_ {
     work.places.iter().copied()
 }
 
-// The three below are always inlined, so that what they are given is a call to a known function, not through a pointer.
+// The four below are always inlined, so that what they are given is a call to a known function, not through a pointer.
 #[inline(always)]
 fn decode_each(decode: Decode, work: &Workload, out: &mut Out) {
     let image = work.image.as_slice();
@@ -146,6 +140,15 @@ fn sweep_each(sweep: Sweep, work: &Workload, out: &mut Out) {
     at_each(work.pieces.iter(), out, |piece, out| {
         let (from, to) = (piece.as_ptr(), out.starts.as_mut_ptr());
         unsafe { sweep(from, piece.len(), to, out.starts.len(), &mut out.count, &mut out.stop) };
+    });
+}
+
+#[inline(always)]
+fn list_each(line: Line, work: &Workload, out: &mut Out) {
+    let image = work.image.as_slice();
+    at_each(places(work), out, |place, out| {
+        let to = out.line.as_mut_slice();
+        unsafe { line(image.as_ptr(), image.len(), place as usize, to.as_mut_ptr(), to.len(), &mut out.length) };
     });
 }
 
@@ -274,6 +277,7 @@ impl Random {
 // A way that did less would be measured for less.
 fn check_same_work(work: &Workload) -> Result<(), String> {
     work.places.iter().try_for_each(|place| check_decoding(work, *place))?;
+    work.places.iter().try_for_each(|place| check_line(work, *place))?;
     work.records.iter().try_for_each(|record| check_encoding(record))?;
     work.pieces.iter().try_for_each(|piece| check_sweeping(piece))
 }
@@ -311,6 +315,19 @@ fn check_encoding(record: &Record) -> Result<(), String> {
     Ok(())
 }
 
+/// There is a line, and it begins with the place.
+fn check_line(work: &Workload, place: u32) -> Result<(), String> {
+    let (mut line, mut length) = ([0; LONGEST_LINE], 0);
+    let (image, to) = (work.image.as_slice(), line.as_mut_slice());
+    let refusal =
+        unsafe { m16c_line(image.as_ptr(), image.len(), place as usize, to.as_mut_ptr(), to.len(), &mut length) };
+    let begin = format!("{:04X} ", place & 0xFFFF);
+    if refusal != 0 || length <= begin.len() || !line.starts_with(begin.as_bytes()) {
+        return Err(format!("the line at place {place} of workload {} is {refusal}, {length}, {line:?}", work.name));
+    }
+    Ok(())
+}
+
 /// All sweep a piece to its end, over the same starts.
 fn check_sweeping(piece: &[u8]) -> Result<(), String> {
     let rattle = swept(m16c_sweep, piece);
@@ -337,7 +354,15 @@ fn called(decode: Decode, image: &[u8], place: u32) -> (u32, Record) {
 }
 
 fn new_out() -> Out {
-    Out { record: [0; 12], bytes: [0; LONGEST], length: 0, starts: vec![0; LONGEST_SWEPT], count: 0, stop: 0 }
+    Out {
+        record: [0; 12],
+        bytes: [0; LONGEST],
+        length: 0,
+        starts: vec![0; LONGEST_SWEPT],
+        count: 0,
+        stop: 0,
+        line: [0; LONGEST_LINE],
+    }
 }
 
 // The plugin's marks are system calls that no kernel has; without the plugin they do nothing.

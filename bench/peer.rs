@@ -93,6 +93,8 @@ const IMAGE_TOO_LONG: u32 = 7;
 /// # Safety
 /// `image` has `image_len` bytes to read, `starts` has `starts_len` numbers to write, `count` and `place` are to be written.
 #[cfg(any(peer = "sweep_call", peer = "sweep_loop"))]
+#[cfg_attr(peer = "sweep_call", export_name = "rust_sweep_call")]
+#[cfg_attr(peer = "sweep_loop", export_name = "rust_sweep_loop")]
 #[inline(never)]
 pub unsafe extern "C" fn rust_sweep(
     image: *const u8,
@@ -139,4 +141,11 @@ fn decode_once(bytes: &[u8], inst: &mut Instruction) -> (u8, usize) {
     let mut reader = CountingReader { bytes, taken: 0 };
     let refusal = decode_counted(inst, &mut reader).err().unwrap_or(ACCEPTED);
     (refusal, reader.taken)
+}
+
+/// The nine functions for their size alone: they fill in their own record, and nobody makes numbers of it.
+#[cfg(peer = "nine")]
+#[no_mangle]
+pub fn rust_nine(bytes: &[u8], inst: &mut Instruction) -> (u8, usize) {
+    decode_once(bytes, inst)
 }

@@ -8,6 +8,8 @@ mod given;
 pub use given::rust_decode;
 #[cfg(peer = "loop")]
 pub use given::rust_decode_at_each;
+#[cfg(peer = "nine")]
+pub use given::rust_nine;
 #[cfg(any(peer = "sweep_call", peer = "sweep_loop"))]
 pub use given::rust_sweep;
 

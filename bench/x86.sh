@@ -123,7 +123,8 @@ exec '$tools/bin/ld.lld' -pie -dynamic-linker /lib64/ld-linux-x86-64.so.2 "\$lib
 SCRIPT
 }
 
-# Writes the commands `rustc-x86`, `rustdoc-x86` and `rustc-own` into `work`: Debian's Rust for x86-64 and for this machine.
+# Writes into `work` the commands `rustc-x86`, `rustdoc-x86` and `rustc-own`, Debian's Rust for x86-64 and for this machine, and
+# `emulate-x86`, which runs what they made for x86-64 under Debian's emulator, with the plugin that `plugin` names, if any.
 write_rust_commands() {
     write_kit_commands
     write_script "$work/rustc-own" <<SCRIPT
@@ -136,6 +137,11 @@ SCRIPT
 LD_LIBRARY_PATH='$root_libs' exec '$root/usr/bin/$tool' --target x86_64-unknown-linux-gnu -C target-cpu=x86-64 -C linker='$work/link-x86' "\$@"
 SCRIPT
     done
+    write_script "$work/emulate-x86" <<SCRIPT
+#!/bin/sh
+LD_LIBRARY_PATH='$root_libs' exec '$root/usr/bin/qemu-x86_64' \${plugin:+-plugin "\$plugin"} \\
+    '$tools/lib/ld-linux-x86-64.so.2' --library-path '$tools/lib' "\$@"
+SCRIPT
 }
 
 # Everything that programs of `rustc-x86` need.
@@ -155,7 +161,7 @@ choose_rust() {
     prepare_x86
     rustc=$work/rustc-x86
     rustdoc=$work/rustdoc-x86
-    launcher=$work/run-x86
+    launcher=$work/emulate-x86
 }
 
 # Compiles C to PROGRAM and sets `launcher`: on x86-64 by the installed compiler; elsewhere the kit's has no headers and takes this
@@ -178,9 +184,4 @@ compile_c() {
 
 qemu() {
     LD_LIBRARY_PATH=$root_libs "$root/usr/bin/qemu-x86_64" "$@"
-}
-
-# Runs a program of `rustc-x86` with the C library that it was linked to, under the plugin that `plugin` names, if any.
-emulate() {
-    qemu ${plugin:+-plugin "$plugin"} "$tools/lib/ld-linux-x86-64.so.2" --library-path "$tools/lib" "$@"
 }

@@ -3,6 +3,9 @@
 // usage: differ [--all]
 
 mod brute;
+#[allow(dead_code)] // for others
+#[path = "../bindings/rust/src/c.rs"]
+mod c;
 mod encoder;
 mod sweeps;
 
@@ -16,10 +19,6 @@ const THREADS: usize = 2;
 const FIRST_BYTES: [u8; 12] = [0x74, 0x75, 0x76, 0x77, 0x78, 0x79, 0x7A, 0x7B, 0x7C, 0x7D, 0x7E, 0xEB];
 const SEED: u64 = 0x6D31_3663_2031_3938;
 const TOO_LITTLE_ROOM: u32 = 6;
-
-extern "C" {
-    fn m16c_decode(image: *const u8, image_len: usize, at: usize, out: *mut u32, out_len: usize) -> u32;
-}
 
 // ---- What is compared
 
@@ -89,7 +88,7 @@ fn ported(image: &[u8], at: usize) -> Answer {
 }
 
 fn decode_into(image: &[u8], at: usize, out: &mut [u32]) -> u32 {
-    unsafe { m16c_decode(image.as_ptr(), image.len(), at, out.as_mut_ptr(), out.len()) }
+    unsafe { c::m16c_decode(image.as_ptr(), image.len(), at, out.as_mut_ptr(), out.len()) }
 }
 
 /// The port's answer with 0 in what it is free in.

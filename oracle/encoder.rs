@@ -3,19 +3,8 @@
 use std::fmt::Write;
 
 use crate::brute::{self, Record, Spelling};
-use crate::{code_of, expected, hex, ported, Kind, Random, Tally, CODES, TOO_LITTLE_ROOM};
+use crate::{c, code_of, expected, hex, ported, Kind, Random, Tally, CODES, TOO_LITTLE_ROOM};
 use crate::{FIELDS, FIELD_NAMES, MARKED, OPCODE, OPERANDS, SIZE, TAKEN, WIDTH};
-
-extern "C" {
-    fn m16c_encode(
-        record: *const u32,
-        record_len: usize,
-        buf: *mut u8,
-        buf_len: usize,
-        place: usize,
-        length: *mut usize,
-    ) -> u32;
-}
 
 const NO_STRING: u32 = 5;
 
@@ -81,7 +70,7 @@ fn encoded(record: &[u32], room: Room) -> Outcome {
     let lent = &mut outcome.buffer[AROUND..AROUND + room.length];
     let (from, count) = (record.as_ptr(), record.len());
     outcome.refusal =
-        unsafe { m16c_encode(from, count, lent.as_mut_ptr(), lent.len(), room.place, &mut outcome.length) };
+        unsafe { c::m16c_encode(from, count, lent.as_mut_ptr(), lent.len(), room.place, &mut outcome.length) };
     outcome
 }
 

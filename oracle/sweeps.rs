@@ -1,17 +1,6 @@
 // The sweep's part of the differential run: the port's `m16c_sweep` beside the Rust asked again and again.
 
-use crate::{expected, hex, Kind, Random, Tally, TAKEN, TOO_LITTLE_ROOM};
-
-extern "C" {
-    fn m16c_sweep(
-        image: *const u8,
-        image_len: usize,
-        starts: *mut u16,
-        starts_len: usize,
-        count: *mut usize,
-        place: *mut usize,
-    ) -> u32;
-}
+use crate::{c, expected, hex, Kind, Random, Tally, TAKEN, TOO_LITTLE_ROOM};
 
 const LONGEST_IMAGE: usize = 4096;
 const IMAGE_TOO_LONG: u32 = 7;
@@ -65,7 +54,7 @@ fn ported(image: &[u8], room: usize) -> Swept {
     let mut swept = Swept { refusal: 0, count: UNWRITTEN, place: UNWRITTEN, starts: vec![NO_START; room] };
     let starts = swept.starts.as_mut_ptr();
     swept.refusal =
-        unsafe { m16c_sweep(image.as_ptr(), image.len(), starts, room, &mut swept.count, &mut swept.place) };
+        unsafe { c::m16c_sweep(image.as_ptr(), image.len(), starts, room, &mut swept.count, &mut swept.place) };
     swept
 }
 

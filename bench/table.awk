@@ -1,0 +1,85 @@
+# The one table of the bench, and its verdicts; exit 1 if a limit is not kept.
+# Lines: "KIND TASK WORKLOAD WAY UNITS AMOUNT" of counted instructions (insns) and times (ns), "bytes TASK - WHOSE CODE CONSTANTS".
+# Set `rows` to a pattern of the workloads that are shown.
+
+BEGIN {
+    split("decode encode sweep line", tasks, " ")
+    # What the port stands beside, in the order shown; and the limits, for the workloads that look like use.
+    beside["insns decode"] = "rust_call rust_loop empty_call"
+    beside["insns encode"] = "decode empty_call"
+    beside["ns decode"] = beside["ns sweep"] = beside["insns sweep"] = "rust_call rust_loop"
+    beside["ns encode"] = "decode"
+    beside["bytes decode"] = "rust_nine rust_call"
+    beside["bytes sweep"] = "rust_call rust_loop"
+    limit["insns decode rust_call"] = limit["bytes decode rust_nine"] = 1
+    limit["insns encode decode"] = 3
+    limit["insns sweep rust_call"] = 1.1
+    spelled["rust_call"] = "the Rust, called"
+    spelled["rust_loop"] = "the Rust, in the loop"
+    spelled["rust_nine"] = "the nine Rust functions"
+    spelled["decode"] = "decoding the same"
+    spelled["empty_call"] = "a call that does nothing"
+    title["insns"] = "x86-64 instructions a unit, the same on every run and machine"
+    title["bytes"] = "bytes of x86-64 code and constants"
+    if (title_of_times != "") title["ns"] = title_of_times
+}
+
+{ kind = $1; task = $2; work = $3; way = $4 }
+kind == "bytes" { amount[kind, task, work, way] = $5 + $6 }
+kind != "bytes" { units[task, work] = $5; amount[kind, task, work, way] = $6 }
+!((kind, task, work) in seen) { seen[kind, task, work]; works[kind, task] = works[kind, task] " " work }
+
+function loop_of(way) { return way == "decode" ? "decode_loop" : "empty_loop" }
+
+# The amount a unit; the loop with nothing in it is taken off.
+function each(kind, task, work, way) {
+    if (kind == "bytes") return amount[kind, task, work, way]
+    return (amount[kind, task, work, way] - amount[kind, task, work, loop_of(way)]) / units[task, work]
+}
+
+function row(kind, task, work, other,  format, own, ratio) {
+    format = kind == "bytes" ? "%10d" : "%10.2f"
+    own = each(kind, task, work, "rattle")
+    printf "  %-6s %-5s %6s " format, task, work, (kind == "bytes" ? "" : units[task, work]), own
+    if (other == "") { print ""; return }
+    ratio = own / each(kind, task, work, other)
+    printf " " format " %7.3f  %s\n", each(kind, task, work, other), ratio, spelled[other]
+    judge(kind, task, work, other, ratio)
+}
+
+function judge(kind, task, work, other, ratio,  key) {
+    key = kind " " task " " other
+    if (!(key in limit) || work !~ /^(image|codes|-)$/) return
+    ratios[key] = ratios[key] (key in ratios && ratios[key] != "" ? ", " : "") sprintf("%.3f", ratio)
+    if (ratio > limit[key]) missed[key]
+}
+
+function section(kind,  t, w, o, list, others) {
+    print title[kind]
+    for (t = 1; t in tasks; t++) {
+        split(works[kind, tasks[t]], list, " ")
+        for (w = 1; w in list; w++) if (list[w] ~ rows) {
+            if (split(beside[kind " " tasks[t]], others, " ") == 0) row(kind, tasks[t], list[w], "")
+            for (o = 1; o in others; o++)
+                if (others[o] != "empty_call" || list[w] == "image") row(kind, tasks[t], list[w], others[o])
+        }
+    }
+}
+
+function verdict(key, text) {
+    printf "%s: at most %.1f, is %s: %s\n", text, limit[key], ratios[key], (key in missed ? "NOT MET" : "met")
+    if (key in missed || ratios[key] == "") failures++
+}
+
+END {
+    printf "  %-6s %-5s %6s %10s %10s %7s\n", "", "", "units", "rattle", "beside", "ratio"
+    section("insns")
+    if ("ns" in title) section("ns")
+    section("bytes")
+    print "limits"
+    verdict("insns decode rust_call", "  decoding, to the Rust called")
+    verdict("insns encode decode", "  encoding, to decoding the same")
+    verdict("insns sweep rust_call", "  the sweep, to the Rust called")
+    verdict("bytes decode rust_nine", "  the decoder\047s size, to that of the nine Rust functions")
+    exit failures > 0
+}
