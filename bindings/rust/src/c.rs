@@ -27,6 +27,15 @@ extern "C" {
         place: usize,
         length: *mut usize,
     ) -> u32;
+
+    /// The listing's line of the instruction at a place of an image, without a newline, over the first bytes of a buffer. Returns 0 and leaves
+    /// the line's length; or decoding's refusal, or 6 where the line has no room, with length 0 and the buffer as it was.
+    pub fn m16c_line(
+        image: *const u8, image_length: usize,
+        at: usize,
+        out: *mut u8, out_length: usize,
+        length: *mut usize,
+    ) -> u32;
 }
 
 // The types of the functions, for programs that pass them on.
@@ -48,5 +57,12 @@ pub type Encode = unsafe extern "C" fn(
     numbers: *const u32, numbers_length: usize,
     buf: *mut u8, buf_length: usize,
     place: usize,
+    length: *mut usize,
+) -> u32;
+
+pub type Line = unsafe extern "C" fn(
+    image: *const u8, image_length: usize,
+    at: usize,
+    out: *mut u8, out_length: usize,
     length: *mut usize,
 ) -> u32;
