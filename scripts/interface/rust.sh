@@ -17,8 +17,7 @@ rust_names() {
     numbered_fields | rust_indices
 }
 
-rust_attributes='#[allow(non_camel_case_types, clippy::upper_case_acronyms)]
-#[derive(Debug, Clone, Copy, PartialEq, Eq, Hash)]'
+rust_attributes='#[allow(non_camel_case_types, clippy::upper_case_acronyms)]\n#[derive(Debug, Clone, Copy, PartialEq, Eq, Hash)]'
 
 # An enum of lines "NUMBER NAME" from a least number on, with the functions to and from numbers.
 rust_enum() {
