@@ -11,6 +11,7 @@ use std::process::ExitCode;
 use std::time::Instant;
 
 use c::{m16c_decode, m16c_encode, m16c_line, m16c_sweep, Decode, Encode, Line, Sweep};
+use c::{LONGEST_IMAGE, LONGEST_INSTRUCTION, LONGEST_LINE};
 use peer_call::{at_each, nothing_decoded, nothing_encoded, rust_decode, Record};
 use peer_loop::rust_decode_at_each;
 use peer_sweep_call::rust_sweep as rust_sweep_call;
@@ -18,11 +19,8 @@ use peer_sweep_loop::rust_sweep as rust_sweep_loop;
 
 const FIRST_BYTES: [u8; 12] = [0x74, 0x75, 0x76, 0x77, 0x78, 0x79, 0x7A, 0x7B, 0x7C, 0x7D, 0x7E, 0xEB];
 const IMAGE_INSTRUCTIONS: usize = 4000;
-const LONGEST: usize = 7;
 const SEED: u64 = 0x9E37_79B9_7F4A_7C15;
 
-const LONGEST_SWEPT: usize = 4096;
-const LONGEST_LINE: usize = 112;
 // Numbers of a record that the Rust does not have.
 const FIRST: usize = 9;
 const MARKED: usize = 11;
@@ -44,7 +42,7 @@ struct Workload {
 /// What the measured work writes into.
 struct Out {
     record: Record,
-    bytes: [u8; LONGEST],
+    bytes: [u8; LONGEST_INSTRUCTION],
     length: usize,
     starts: Vec<u16>,
     count: usize,
@@ -224,7 +222,7 @@ fn assemble(name: &str, codes: &[(u8, u8)], random: &mut Random) -> Workload {
         let instruction = accepted_instruction(*first, *second, random);
         places.push(image.len() as u32);
         image.extend(&instruction);
-        if pieces[pieces.len() - 1].len() + instruction.len() > LONGEST_SWEPT {
+        if pieces[pieces.len() - 1].len() + instruction.len() > LONGEST_IMAGE {
             pieces.push(Vec::new());
         }
         pieces.last_mut().expect("there is a piece").extend(&instruction);
@@ -235,7 +233,7 @@ fn assemble(name: &str, codes: &[(u8, u8)], random: &mut Random) -> Workload {
 // A tail of zeros is accepted wherever any tail is: it holds a condition that 7E takes.
 fn accepted_seconds(first: u8) -> Vec<u8> {
     let accepted = |second: &u8| {
-        let mut bytes = [0; LONGEST];
+        let mut bytes = [0; LONGEST_INSTRUCTION];
         bytes[..2].copy_from_slice(&[first, *second]);
         oracle::answer(&bytes).refusal == oracle::ACCEPTED
     };
@@ -246,7 +244,7 @@ fn accepted_seconds(first: u8) -> Vec<u8> {
 fn accepted_instruction(first: u8, second: u8, random: &mut Random) -> Vec<u8> {
     loop {
         let mut bytes = vec![first, second];
-        bytes.extend((2..LONGEST).map(|_| random.byte()));
+        bytes.extend((2..LONGEST_INSTRUCTION).map(|_| random.byte()));
         let answer = oracle::answer(&bytes);
         if answer.refusal == oracle::ACCEPTED {
             bytes.truncate(answer.taken);
@@ -301,7 +299,7 @@ fn check_decoding(work: &Workload, place: u32) -> Result<(), String> {
 fn check_encoding(record: &Record) -> Result<(), String> {
     const OPCODE_TO_WIDTH: std::ops::RangeInclusive<usize> = 1..=3;
     const LENGTH: usize = 10;
-    let (mut bytes, mut length) = ([0; LONGEST], 0);
+    let (mut bytes, mut length) = ([0; LONGEST_INSTRUCTION], 0);
     let refusal =
         unsafe { m16c_encode(record.as_ptr(), record.len(), bytes.as_mut_ptr(), bytes.len(), 0, &mut length) };
     let back = called(m16c_decode, &bytes, 0).1;
@@ -356,9 +354,9 @@ fn called(decode: Decode, image: &[u8], place: u32) -> (u32, Record) {
 fn new_out() -> Out {
     Out {
         record: [0; 12],
-        bytes: [0; LONGEST],
+        bytes: [0; LONGEST_INSTRUCTION],
         length: 0,
-        starts: vec![0; LONGEST_SWEPT],
+        starts: vec![0; LONGEST_IMAGE],
         count: 0,
         stop: 0,
         line: [0; LONGEST_LINE],

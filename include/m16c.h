@@ -18,12 +18,13 @@
 extern "C" {
 #endif
 
-/* The longest image that is swept, the longest instruction, and room that is enough for every line, in bytes. */
-#define M16C_LONGEST_IMAGE 4096
-#define M16C_LONGEST_INSTRUCTION 7
-#define M16C_LONGEST_LINE 112
-
 /* Made by scripts/interface: names */
+enum m16c_length {
+    M16C_LONGEST_IMAGE = 4096, /* the longest image that is swept, in bytes */
+    M16C_LONGEST_INSTRUCTION = 7, /* the longest instruction, in bytes */
+    M16C_LONGEST_LINE = 112 /* room that is enough for every line, in bytes */
+};
+
 /* What a function returns. */
 enum m16c_refusal {
     M16C_ACCEPTED = 0, /* done */

@@ -1,8 +1,8 @@
 // The sweep's part of the differential run: the port's `m16c_sweep` beside the Rust asked again and again.
 
-use crate::{c, expected, hex, Kind, Random, Tally, TAKEN, TOO_LITTLE_ROOM};
+use crate::c::{self, LONGEST_IMAGE};
+use crate::{expected, hex, Kind, Random, Tally, TAKEN, TOO_LITTLE_ROOM};
 
-const LONGEST_IMAGE: usize = 4096;
 const IMAGE_TOO_LONG: u32 = 7;
 
 #[rustfmt::skip]

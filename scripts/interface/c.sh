@@ -20,6 +20,8 @@ header() {
 }
 
 c_names() {
+    numbered_lengths | enumeration length ''
+    echo
     echo '/* What a function returns. */'
     numbered_refusals | parted | enumeration refusal ''
     echo

@@ -73,9 +73,17 @@ rust_indices() {
         END { printf "    pub const NUMBERS: usize = %d;\n}\n", NR }'
 }
 
+rust_lengths() {
+    numbered_lengths | awk '{
+        text = $0; sub(/^[^ ]+ [^ ]+ /, "", text)
+        printf "\n/// %s.\npub const %s: usize = %d;\n", toupper(substr(text, 1, 1)) substr(text, 2), toupper($2), $1
+    }'
+}
+
 rust_functions() {
     echo '// The functions as C has them: a slice is a pointer and a length in elements, a lent number a pointer.'
     echo '// Made by scripts/interface from the crates of the functions: change those, not this.'
+    rust_lengths
     echo
     functions | awk '
         function declared(name, type) {

@@ -19,6 +19,16 @@ numbered_refusals() {
 LIST
 }
 
+# The same of lengths that callers make room by. Each stands in a definition or is proved: `whole` (sweep/specs/Sweep), `two-to-seven`
+# (rows/proofs/Length), `line-short` (text/proofs/Lined).
+numbered_lengths() {
+    cat <<'LIST'
+4096 longest_image the longest image that is swept, in bytes
+7 longest_instruction the longest instruction, in bytes
+112 longest_line room that is enough for every line, in bytes
+LIST
+}
+
 # "NUMBER FIELD" of each number of a record: the entry that m16c_decode fills with it.
 numbered_fields() {
     awk '$1 ~ /^out\[[0-9]+\]$/ && $2 == "=" {

@@ -1,6 +1,15 @@
 // The functions as C has them: a slice is a pointer and a length in elements, a lent number a pointer.
 // Made by scripts/interface from the crates of the functions: change those, not this.
 
+/// The longest image that is swept, in bytes.
+pub const LONGEST_IMAGE: usize = 4096;
+
+/// The longest instruction, in bytes.
+pub const LONGEST_INSTRUCTION: usize = 7;
+
+/// Room that is enough for every line, in bytes.
+pub const LONGEST_LINE: usize = 112;
+
 extern "C" {
     /// Decodes at a place of an image. Returns the refusal, 0 for none, and fills twelve entries: taken, opcode, size, width, three
     /// operands, imm_wide, dispabs, first, length, marked. With fewer than twelve entries it returns 6 and touches none.

@@ -4,7 +4,7 @@ use crate::{Opcode, OperandSpec, Size, Width};
 /// A record as the library has it.
 pub(crate) type Numbers = [u32; index::NUMBERS];
 
-/// A decoded instruction, or one to be encoded.
+/// A decoded instruction, or one to be encoded. `==` compares every field; the same instruction can be said by several records.
 #[derive(Debug, Clone, Copy, PartialEq, Eq, Hash)]
 pub struct Instruction {
     /// The opcode, with the size that it carries.
@@ -46,19 +46,19 @@ impl Default for Instruction {
 
 impl Instruction {
     /// Operand 0, 1 or 2; none if there is none.
-    pub fn operand(&self, index: usize) -> Option<Operand> {
-        let spec = *self.operands.get(index)?;
+    pub fn operand(&self, idx: u8) -> Option<Operand> {
+        let spec = *self.operands.get(usize::from(idx))?;
         let number = match number_of(spec) {
             Number::None => None,
             Number::ImmWide => Some(self.imm_wide),
-            Number::Dispabs if Some(index) == self.operand_of_first() => Some(u32::from(self.first)),
+            Number::Dispabs if Some(idx) == self.operand_of_first() => Some(u32::from(self.first)),
             Number::Dispabs => Some(u32::from(self.dispabs)),
         };
         (spec != OperandSpec::Nothing).then_some(Operand { spec, number })
     }
 
     /// Where operands 0 and 1 both need `dispabs`, the one whose number is in `first`.
-    fn operand_of_first(&self) -> Option<usize> {
+    fn operand_of_first(&self) -> Option<u8> {
         let [op0, op1, _] = self.operands;
         let both = number_of(op0) == Number::Dispabs && number_of(op1) == Number::Dispabs;
         both.then_some(if op0 == OperandSpec::Disp8_SP { 1 } else { 0 })

@@ -80,7 +80,7 @@ fn encoded(instruction: &Instruction) -> Result<Vec<u8>, Refusal> {
 
 /// Two instructions are the same if this agrees.
 fn meaning(instruction: &Instruction) -> (Opcode, Width, [Option<(OperandSpec, u32)>; 3]) {
-    let operand = |k: usize| instruction.operand(k).map(|operand| based(operand.spec, operand.number.unwrap_or(0)));
+    let operand = |k: u8| instruction.operand(k).map(|operand| based(operand.spec, operand.number.unwrap_or(0)));
     (instruction.opcode, instruction.width, [0, 1, 2].map(operand))
 }
 
