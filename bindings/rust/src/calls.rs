@@ -35,7 +35,7 @@ pub fn decode(image: &[u8], at: usize) -> Result<Instruction, Refused> {
 pub fn encode(instruction: &Instruction, buf: &mut [u8], place: usize) -> Result<usize, Refusal> {
     let numbers = instruction.numbers();
     let mut length = 0;
-    // Sound: as above, and `length` is a number of ours.
+    // Sound: both are slices, passed with their own lengths and borrowed for the call, and `length` is a number of ours.
     let returned =
         unsafe { c::m16c_encode(numbers.as_ptr(), numbers.len(), buf.as_mut_ptr(), buf.len(), place, &mut length) };
     accepted(returned).map(|()| length)
