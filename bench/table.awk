@@ -50,7 +50,8 @@ function row(kind, task, work, other,  format, own, ratio) {
 function judge(kind, task, work, other, ratio,  key) {
     key = kind " " task " " other
     if (!(key in limit) || work !~ /^(image|codes|-)$/) return
-    ratios[key] = ratios[key] (key in ratios && ratios[key] != "" ? ", " : "") sprintf("%.3f", ratio)
+    if (key in ratios) ratios[key] = ratios[key] ", "
+    ratios[key] = ratios[key] sprintf("%.3f", ratio)
     if (ratio > limit[key]) missed[key]
 }
 
@@ -66,9 +67,10 @@ function section(kind,  t, w, o, list, others) {
     }
 }
 
-function verdict(key, text) {
-    printf "%s: at most %.1f, is %s: %s\n", text, limit[key], ratios[key], (key in missed ? "NOT MET" : "met")
-    if (key in missed || ratios[key] == "") failures++
+function verdict(key, text,  bad) {
+    bad = key in missed || !(key in ratios)
+    failures += bad
+    printf "%s: at most %.1f, is %s: %s\n", text, limit[key], (key in ratios ? ratios[key] : "not measured"), (bad ? "NOT MET" : "met")
 }
 
 END {
