@@ -43,39 +43,17 @@ from-names : (f : Opcode → ℕ) (xs : Opcode → List Operand) → Names f xs 
 from-names f xs t o x =
     bits-apart _ _ (eqb-true _ _ (so _ (every-operand (λ x. eqb (bit (bitOf (f o) (operandNo x))) (bit (among (xs o) x))) (every-opcode (λ o. every (λ j x. eqb (bit (bitOf (f o) (operandNo x))) (bit (among (xs o) x))) 0 operands) t o) x)))
 
-first-B : Names (λ o. first (formOf o) B) (λ o. names (formOf o) B .first)
+first-names : (w : Width) → Names (λ o. first (formOf o) w) (λ o. names (formOf o) w .first)
 unfolding set formOf among is
-first-B = tt
+first-names B = tt
+first-names W = tt
+first-names None = tt
 
-first-W : Names (λ o. first (formOf o) W) (λ o. names (formOf o) W .first)
+second-names : (w : Width) → Names (λ o. second (formOf o) w) (λ o. names (formOf o) w .second)
 unfolding set formOf among is
-first-W = tt
-
-first-None : Names (λ o. first (formOf o) None) (λ o. names (formOf o) None .first)
-unfolding set formOf among is
-first-None = tt
-
-second-B : Names (λ o. second (formOf o) B) (λ o. names (formOf o) B .second)
-unfolding set formOf among is
-second-B = tt
-
-second-W : Names (λ o. second (formOf o) W) (λ o. names (formOf o) W .second)
-unfolding set formOf among is
-second-W = tt
-
-second-None : Names (λ o. second (formOf o) None) (λ o. names (formOf o) None .second)
-unfolding set formOf among is
-second-None = tt
-
-in-first : (w : Width) (o : Opcode) (x : Operand) → bitOf (first (formOf o) w) (operandNo x) ≡ among (names (formOf o) w .first) x
-in-first B = from-names (λ o. first (formOf o) B) (λ o. names (formOf o) B .first) first-B
-in-first W = from-names (λ o. first (formOf o) W) (λ o. names (formOf o) W .first) first-W
-in-first None = from-names (λ o. first (formOf o) None) (λ o. names (formOf o) None .first) first-None
-
-in-second : (w : Width) (o : Opcode) (x : Operand) → bitOf (second (formOf o) w) (operandNo x) ≡ among (names (formOf o) w .second) x
-in-second B = from-names (λ o. second (formOf o) B) (λ o. names (formOf o) B .second) second-B
-in-second W = from-names (λ o. second (formOf o) W) (λ o. names (formOf o) W .second) second-W
-in-second None = from-names (λ o. second (formOf o) None) (λ o. names (formOf o) None .second) second-None
+second-names B = tt
+second-names W = tt
+second-names None = tt
 
 sizeAgrees : Width → Size → Opcode → Bool
 sizeAgrees w s o = eqb (bit (bitOf (first (formOf o) w) (57 + sizeNo s))) (bit (eqb (sizeNo s) (sizeNo (sizeFor (formOf o) w))))
@@ -105,4 +83,5 @@ pub in-sets : (w : Width) (o : Opcode) (s : Size) (x y : Operand) {m n : ℕ} �
     ≡ both (eqb (sizeNo s) (sizeNo (sizeFor (formOf o) w))) (both (among (names (formOf o) w .first) x) (among (names (formOf o) w .second) y))
 in-sets w o s x y e h =
     ap₂ (λ m n. both (bitOf m (57 + sizeNo s)) (both (bitOf m (operandNo x)) (bitOf n (operandNo y)))) e h
-    ∙ ap₂ both (in-size w o s) (ap₂ both (in-first w o x) (in-second w o y))
+    ∙ ap₂ both (in-size w o s)
+    (ap₂ both (from-names (λ o. first (formOf o) w) (λ o. names (formOf o) w .first) (first-names w) o x) (from-names (λ o. second (formOf o) w) (λ o. names (formOf o) w .second) (second-names w) o y))

@@ -2,38 +2,57 @@
 -- Assumes nothing.
 use mathlib.Core.Path.{_≡_, sym, ap}
 use mathlib.Core.Bool.{Bool, true, false}
-use lib.Dec.{eqb}
+use lib.Dec.{T, eqb}
 use borrow.Author.Tests.{eqb-true}
 use Rattle.tests.specs.Choice.{both, either}
+use Rattle.tests.specs.Table.{every}
 use Rattle.record.specs.declared.Operand.{Operand}
 use Rattle.record.specs.declared.Operand.the-variants.{Imm4, Imm8}
 use Rattle.record.specs.declared.Width.{Width}
 use Rattle.record.specs.Numbers.{widthNo, operandNo}
 use Rattle.record.specs.Same.{is, among, baseOf}
-use Rattle.record.proofs.Apart.{operands-apart}
+use Rattle.record.proofs.Apart.{operands, operands-apart}
 use Rattle.record.proofs.Arms.{every-operand, bit, bits-apart}
 use Rattle.shortest.specs.Choose.{narrow}
 use Rattle.shortest.specs.Coarse.{whole}
 use Rattle.shortest.proofs.Bools.{so}
 
+-- a test at every name, however its number is
+abbrev Always : (Bool → Bool → Operand → Bool) → Type 0
+Always f = (z s : Bool) → T (every (λ i o. f z s o) 0 operands)
+
 -- a shorter name has the same base
+sameBase : Bool → Bool → Operand → Bool
+sameBase z s o = eqb (operandNo (baseOf (narrow (baseOf o) z s))) (operandNo (baseOf o))
+
+always-base : Always sameBase
+unfolding sameBase baseOf is among
+always-base true true = tt
+always-base true false = tt
+always-base false true = tt
+always-base false false = tt
+
 pub base-kept : (z s : Bool) (o : Operand) → baseOf (narrow (baseOf o) z s) ≡ baseOf o
-unfolding baseOf is among
-base-kept true true o = operands-apart _ _ (eqb-true _ _ (so _ (every-operand (λ o. eqb (operandNo (baseOf (narrow (baseOf o) true true))) (operandNo (baseOf o))) tt o)))
-base-kept true false o = operands-apart _ _ (eqb-true _ _ (so _ (every-operand (λ o. eqb (operandNo (baseOf (narrow (baseOf o) true false))) (operandNo (baseOf o))) tt o)))
-base-kept false true o = operands-apart _ _ (eqb-true _ _ (so _ (every-operand (λ o. eqb (operandNo (baseOf (narrow (baseOf o) false true))) (operandNo (baseOf o))) tt o)))
-base-kept false false o = operands-apart _ _ (eqb-true _ _ (so _ (every-operand (λ o. eqb (operandNo (baseOf (narrow (baseOf o) false false))) (operandNo (baseOf o))) tt o)))
+unfolding sameBase
+base-kept z s o = operands-apart _ _ (eqb-true _ _ (so _ (every-operand (sameBase z s) (always-base z s) o)))
 
 -- Imm4 and Imm8 have no other name
 abbrev inCode : Operand → Bool
 inCode o = either (is o Imm4) (is o Imm8)
 
+sameInCode : Bool → Bool → Operand → Bool
+sameInCode z s o = eqb (bit (inCode (narrow o z s))) (bit (inCode o))
+
+always-in-code : Always sameInCode
+unfolding sameInCode is
+always-in-code true true = tt
+always-in-code true false = tt
+always-in-code false true = tt
+always-in-code false false = tt
+
 in-code : (z s : Bool) (o : Operand) → inCode (narrow o z s) ≡ inCode o
-unfolding is
-in-code true true o = bits-apart _ _ (eqb-true _ _ (so _ (every-operand (λ o. eqb (bit (inCode (narrow o true true))) (bit (inCode o))) tt o)))
-in-code true false o = bits-apart _ _ (eqb-true _ _ (so _ (every-operand (λ o. eqb (bit (inCode (narrow o true false))) (bit (inCode o))) tt o)))
-in-code false true o = bits-apart _ _ (eqb-true _ _ (so _ (every-operand (λ o. eqb (bit (inCode (narrow o false true))) (bit (inCode o))) tt o)))
-in-code false false o = bits-apart _ _ (eqb-true _ _ (so _ (every-operand (λ o. eqb (bit (inCode (narrow o false false))) (bit (inCode o))) tt o)))
+unfolding sameInCode
+in-code z s o = bits-apart _ _ (eqb-true _ _ (so _ (every-operand (sameInCode z s) (always-in-code z s) o)))
 
 in-code-base : (o : Operand) → inCode (baseOf o) ≡ inCode o
 unfolding baseOf is among

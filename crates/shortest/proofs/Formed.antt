@@ -65,22 +65,11 @@ formTest w o =
 abbrev Tested : Width → Type 0
 Tested w = T (every (λ i o. formTest w o) 0 opcodes)
 
-tested-B : Tested B
-unfolding formTest upto rowsOf known condOf condByte chooseBy place formOf is among conds fieldOf baseOf whole
-tested-B = tt
-
-tested-W : Tested W
-unfolding formTest upto rowsOf known condOf condByte chooseBy place formOf is among conds fieldOf baseOf whole
-tested-W = tt
-
-tested-None : Tested None
-unfolding formTest upto rowsOf known condOf condByte chooseBy place formOf is among conds fieldOf baseOf whole
-tested-None = tt
-
 tested : (w : Width) → Tested w
-tested B = tested-B
-tested W = tested-W
-tested None = tested-None
+unfolding formTest upto rowsOf known condOf condByte chooseBy place formOf is among conds fieldOf baseOf whole
+tested B = tt
+tested W = tt
+tested None = tt
 
 -- a test at every name of a list holds at a name among them
 at-among : (f : Operand → Bool) (xs : List Operand) (i : ℕ) → T (every (λ i x. f x) i xs) → (x : Operand) → among xs x ≡ true → T (f x)
