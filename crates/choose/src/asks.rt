@@ -61,7 +61,7 @@ fn whole_number(k: Key) -> u32
     }
 }
 
-// The address of MOVA (62) and PUSHA (77) is a sum: there 0 is not dropped.
+// No row of MOVA (62) or PUSHA (77) names Deref: there a displacement of 0 is not dropped.
 fn drops_zero(o: Opcode) -> bool
     ensures { λ r. ⌜ r ≡ choice.dropsZero o ⌝ }
 {

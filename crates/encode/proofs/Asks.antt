@@ -1,26 +1,90 @@
--- A live row of document 01 reads what its names ask for.
+-- What a row reads, told by its names alone: its displacements, then its other number, then its condition. A live row of document 01
+-- reads what its names ask for.
 -- Assumes nothing.
-use Prim.Native.Nat.{ℕ, zero, suc, _≤_, _<_}
+use Rattle.rows.specs.Run.{twentyBits}
+use Rattle.rows.specs.Codes.{condOf}
+use Rattle.record.specs.declared.Operand.the-variants.{«Disp8_SP»}
+use Rattle.record.specs.declared.Opcode.{Opcode}
+use Prim.Native.Nat.{ℕ, zero, suc, _≤_, _<_, _+_, _^_}
 use mathlib.Core.Path.{_≡_, refl, sym, ap, ap₂, subst, _∙_}
 use mathlib.Core.Bool.{Bool, true}
-use mathlib.Core.List.{List, _++_, append-nil}
-use lib.Dec.{T, leb}
+use mathlib.Core.List.{List, _++_, append-nil, [], _∷_}
+use lib.Dec.{T, leb, ltb}
 use native.Mathlib.Omega.{arith}
 use borrow.Author.Tests.{leb-true}
 use Rattle.tests.specs.Choice.{pick, both}
 use Rattle.record.specs.declared.Record.{Record}
 use Rattle.record.specs.Same.{is, among, fieldOf, baseOf}
 use Rattle.rows.specs.All.{everyCode}
-use Rattle.rows.specs.Row.{Read, Face, Row}
+use Rattle.rows.specs.Row.{Read, Face, Row, disp, imm, imm20, num, cond}
 use Rattle.rows.specs.Rows.{known, rowsOf, document01}
 use Rattle.rows.proofs.All.{every-code}
 use Rattle.shortest.specs.Digits.{digits}
 use Rattle.shortest.specs.Can.{fits}
-use Rattle.shortest.specs.Search.{condByte, disps, conds, nth, spell, live}
-use Rattle.shortest.specs.Coarse.{whole}
+use Rattle.shortest.specs.Search.{condByte, disps, conds, nth, spell, live, means}
+use Rattle.shortest.specs.Coarse.{whole, wholeRow}
 use Rattle.shortest.proofs.Bools.{so, both-true, both-last, picked}
-use Rattle.encode.specs.Asks.{near, far, displacement, number, condition, before, behind, further, readsOf, front, numbers, fitting, fittingNumber, fittingCondition, allFitting}
+use Rattle.encode.specs.Slots.{near, far}
 use Rattle.encode.proofs.Slim.{slim, oneNum, oneRead, oneList, one-list, slim-spell, slim-fits}
+
+abbrev pub displacement : ℕ → List Read
+displacement zero = []
+displacement (suc n) = num (disp (suc n)) ∷ []
+
+abbrev pub number : ℕ → List Read
+number zero = []
+number (suc zero) = num (imm 1) ∷ []
+number (suc (suc zero)) = num (imm 2) ∷ []
+number (suc (suc (suc n))) = num imm20 ∷ []
+
+abbrev pub condition : ℕ → List Read
+condition zero = []
+condition (suc n) = cond ∷ []
+
+-- Disp8_SP is read behind the other operand
+abbrev pub before : Face → ℕ
+before f = pick (is (f .op0) «Disp8_SP») (near (f .op1)) (near (f .op0))
+
+abbrev pub behind : Face → ℕ
+behind f = pick (is (f .op0) «Disp8_SP») 1 (near (f .op1))
+
+-- a number that is part of the code is not read
+abbrev pub further : Face → ℕ
+further f = pick (wholeRow f) 0 (far (f .op0) + far (f .op1))
+
+unfoldable pub readsOf : Face → ℕ → List Read
+readsOf f c = displacement (before f) ++ (displacement (behind f) ++ (number (further f) ++ condition c))
+
+-- the number of a displacement that another, of n bytes, is read behind
+abbrev pub front : ℕ → Record → ℕ
+front zero t = t .dispabs
+front (suc n) t = t .first
+
+-- the bytes behind a code, for the numbers of a record
+unfoldable pub numbers : Face → ℕ → Record → List ℕ
+numbers f c t =
+    digits (before f) (front (behind f) t)
+    ++ (digits (behind f) (t .dispabs) ++ (digits (further f) (t .«imm_wide») ++ digits c (condByte (t .opcode))))
+
+-- whether the numbers of a record fit there: a displacement and another number in their bytes, 20 bits of three; a condition has a byte
+abbrev pub fitting : ℕ → ℕ → Bool
+fitting zero v = true
+fitting (suc n) v = ltb v (256 ^ suc n)
+
+abbrev pub fittingNumber : ℕ → ℕ → Bool
+fittingNumber zero v = true
+fittingNumber (suc zero) v = ltb v (256 ^ 1)
+fittingNumber (suc (suc zero)) v = ltb v (256 ^ 2)
+fittingNumber (suc (suc (suc n))) v = ltb v twentyBits
+
+abbrev pub fittingCondition : ℕ → Opcode → Bool
+fittingCondition zero o = true
+fittingCondition (suc n) o = means (condOf (condByte o)) o
+
+unfoldable pub allFitting : Face → ℕ → Record → Bool
+allFitting f c t =
+    both (fitting (before f) (front (behind f) t))
+    (both (fitting (behind f) (t .dispabs)) (both (fittingNumber (further f) (t .«imm_wide»)) (fittingCondition c (t .opcode))))
 
 asNamed : ℕ → ℕ → Bool
 asNamed a b =

@@ -12,7 +12,7 @@ use Rattle.record.specs.Same.{is, among, Field, nowhere, wide, short, early, fi
 use Rattle.record.proofs.Apart.{operands-apart}
 use Rattle.record.proofs.Arms.{every-operand, bit, bits-apart}
 use Rattle.shortest.proofs.Bools.{so}
-use Rattle.encode.specs.Asks.{near}
+use Rattle.encode.specs.Slots.{near}
 use Rattle.encode.specs.Value.{isShort}
 
 -- no test is both

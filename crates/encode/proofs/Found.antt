@@ -28,7 +28,7 @@ use Rattle.shortest.specs.Choose.{asked, dropsZero, chooseBy, chooseNamed, enco
 use Rattle.shortest.proofs.Bools.{so, both-true, picked}
 use Rattle.shortest.proofs.Formed.{Formed, formed, meant}
 use Rattle.encode.specs.declared.Plan.{Plan}
-use Rattle.encode.specs.Asks.{fittingCondition}
+use Rattle.encode.proofs.Asks.{fittingCondition}
 use Rattle.encode.specs.Faced.{faceBy, conditions}
 use Rattle.encode.specs.Plan.{planned, foundBy}
 use Rattle.encode.specs.Slots as slots

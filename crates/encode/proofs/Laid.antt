@@ -1,9 +1,10 @@
 -- The numbers of a record that is aimed at are the parts of the key, wherever they have bytes.
 -- Assumes nothing.
+use Rattle.record.specs.declared.Opcode.{Opcode}
 use Prim.Native.Nat.{ℕ, zero, suc}
 use mathlib.Core.Path.{_≡_, refl, sym, ap, ap₂, subst}
 use mathlib.Core.Bool.{Bool, true, false, false≢true}
-use mathlib.Core.List.{_++_}
+use mathlib.Core.List.{_++_, List}
 use mathlib.Core.Logic.{_⊎_, inl, inr}
 use Rattle.tests.specs.Choice.{pick, both}
 use Rattle.record.specs.declared.Key.{Key}
@@ -11,11 +12,43 @@ use Rattle.record.specs.declared.Operand.the-variants.{«Disp8_SP»}
 use Rattle.record.specs.Same.{is, Field, nowhere, wide, short, early, fieldOf}
 use Rattle.rows.specs.Row.{Face}
 use Rattle.shortest.specs.Digits.{digits}
-use Rattle.shortest.specs.Search.{dispFor, firstFor, aim}
-use Rattle.encode.specs.Asks.{near, before, behind, front, numbers, fitting, allFitting}
+use Rattle.shortest.specs.Search.{dispFor, firstFor, aim, condByte, wideFor}
+use Rattle.encode.specs.Slots.{near}
+use Rattle.encode.proofs.Asks.{before, behind, further, front, numbers, fitting, fittingNumber, fittingCondition, allFitting}
 use Rattle.encode.specs.Value.{isShort}
-use Rattle.encode.specs.Parts.{parts, laid, fitParts}
 use Rattle.encode.proofs.Fields.{no, some, near-some, sp-short}
+
+-- each has so many bytes
+pub record Parts : Type 0 where
+  pub before : ℕ
+  pub front : ℕ
+  pub behind : ℕ
+  pub back : ℕ
+  pub further : ℕ
+  pub wide : ℕ
+  pub conditions : ℕ
+  pub byte : ℕ
+
+-- Disp8_SP is read behind the other operand
+abbrev pub parts : Face → ℕ → Key → Parts
+parts f c k = record {
+  before = before f;
+  front = pick (is (f .op0) «Disp8_SP») (k .number1) (k .number0);
+  behind = behind f;
+  back = pick (is (f .op0) «Disp8_SP») (k .number0) (k .number1);
+  further = further f;
+  wide = wideFor (fieldOf (f .op0)) k;
+  conditions = c;
+  byte = condByte (k .opcode);
+}
+
+-- their bytes
+abbrev pub laid : Parts → List ℕ
+laid p = digits (p .before) (p .front) ++ (digits (p .behind) (p .back) ++ (digits (p .further) (p .wide) ++ digits (p .conditions) (p .byte)))
+
+-- each fits in its bytes
+abbrev pub fitParts : Parts → Opcode → Bool
+fitParts p o = both (fitting (p .before) (p .front)) (both (fitting (p .behind) (p .back)) (both (fittingNumber (p .further) (p .wide)) (fittingCondition (p .conditions) o)))
 
 -- n and m are the bytes of the two operands' displacements, f and g their fields, s that operand 0 is Disp8_SP
 module _ (k : Key) where

@@ -28,9 +28,10 @@ use Rattle.shortest.specs.Coarse.{whole, wholeRow}
 use Rattle.shortest.specs.Forms.{numberLimit}
 use Rattle.shortest.proofs.Bools.{so, both-last, picked, level}
 use Rattle.choose.specs.Coded.{isWide}
-use Rattle.encode.specs.Asks.{near, far, before, behind, further, fitting, fittingNumber, fittingCondition}
-use Rattle.encode.specs.Parts.{parts, laid}
-use Rattle.encode.specs.Sayable.{sayable}
+use Rattle.encode.specs.Slots.{near, far}
+use Rattle.encode.proofs.Asks.{before, behind, further, fitting, fittingNumber, fittingCondition}
+use Rattle.encode.proofs.Laid.{parts, laid}
+use Rattle.encode.proofs.Sayable.{sayable}
 use Rattle.encode.specs.Slots as slots
 use Rattle.encode.specs.Slots.{countOf, limitOf, turns, count0}
 use Rattle.encode.proofs.Laid.{fit-as}

@@ -14,10 +14,12 @@ use Rattle.rows.specs.Row.{Read, Face}
 use Rattle.rows.specs.Rows.{known, document01}
 use Rattle.shortest.specs.Search.{imms, conds, live, aim}
 use Rattle.shortest.specs.Can.{exact, named, can}
-use Rattle.encode.specs.Asks.{displacement, number, condition, before, behind, further, readsOf}
-use Rattle.encode.specs.Sayable.{sayable}
+use Rattle.encode.proofs.Asks.{displacement, number, condition, before, behind, further, readsOf, as-named, fitted, allFitting}
 use Rattle.encode.proofs.Slim.{slim-imms}
-use Rattle.encode.proofs.Asks.{as-named, fitted}
+
+-- each number of a key fits where a row reads it, or is the row's own: told by the row's names, its own number and how many conditions it reads
+unfoldable pub sayable : Face → ℕ → ℕ → Key → Bool
+sayable f own c k = both (exact (fieldOf (f .op0)) (further f) own (k .number0)) (both (exact (fieldOf (f .op1)) (further f) own (k .number1)) (allFitting f c (aim f k)))
 
 -- a number is read just where the names ask for one
 unfoldable pub any : ℕ → ℕ

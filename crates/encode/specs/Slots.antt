@@ -1,22 +1,31 @@
 -- The numbers of a key behind a code: each operand's in its bytes, in their order, and a condition.
 use Prim.Native.Nat.{ℕ, zero, suc, _+_}
 use mathlib.Core.Bool.{Bool}
-use mathlib.Core.List.{List, _++_}
+use mathlib.Core.List.{List, [], _∷_, _++_}
 use lib.Dec.{ltb, eqb}
 use Rattle.tests.specs.Choice.{pick, both, either}
 use Rattle.record.specs.declared.Key.{Key}
 use Rattle.record.specs.declared.Operand.{Operand}
-use Rattle.record.specs.declared.Operand.the-variants.{Imm4, «Disp8_SP»}
-use Rattle.record.specs.Same.{is, fieldOf}
+use Rattle.record.specs.declared.Operand.the-variants.{Imm4, Imm8, Imm16, Abs16, Abs20, Disp8, «Disp8_A0», «Disp8_A1», «Disp8_SB», «Disp8_FB», «Disp8_SP», «Disp16_A0», «Disp16_A1», «Disp16_SB», «Disp20_A0», «Disp20_A1», «Bit_R0», «Bit_R1», «Bit_R2», «Bit_R3», «Bit_A0», «Bit_A1», «Bit_Disp8_A0», «Bit_Disp8_A1», «Bit_Disp8_SB», «Bit_Disp8_FB», «Bit_Disp16_A0», «Bit_Disp16_A1», «Bit_Disp16_SB», «Bit_Abs16»}
+use Rattle.record.specs.Same.{is, among, fieldOf}
 use Rattle.rows.specs.Row.{Face}
 use Rattle.rows.specs.Run.{twentyBits}
 use Rattle.shortest.specs.Digits.{digits}
 use Rattle.shortest.specs.Search.{condByte}
 use Rattle.shortest.specs.Coarse.{wholeRow}
 use Rattle.choose.specs.Coded.{isWide}
-use Rattle.encode.specs.Asks.{near, far}
 
--- how many bytes a name's number has, of either kind
+-- how many bytes of displacement a name asks for, bit numbers among them
+unfoldable pub near : Operand → ℕ
+near a =
+    pick (among («Disp8_A0» ∷ «Disp8_A1» ∷ «Disp8_SB» ∷ «Disp8_FB» ∷ «Disp8_SP» ∷ «Bit_R0» ∷ «Bit_R1» ∷ «Bit_R2» ∷ «Bit_R3» ∷ «Bit_A0» ∷ «Bit_A1» ∷ «Bit_Disp8_A0» ∷ «Bit_Disp8_A1» ∷ «Bit_Disp8_SB» ∷ «Bit_Disp8_FB» ∷ []) a) 1
+    (pick (among («Disp16_A0» ∷ «Disp16_A1» ∷ «Disp16_SB» ∷ Abs16 ∷ «Bit_Disp16_A0» ∷ «Bit_Disp16_A1» ∷ «Bit_Disp16_SB» ∷ «Bit_Abs16» ∷ []) a) 2 0)
+
+-- how many of another number
+unfoldable pub far : Operand → ℕ
+far a = pick (among (Imm8 ∷ Disp8 ∷ []) a) 1 (pick (is a Imm16) 2 (pick (among (Abs20 ∷ «Disp20_A0» ∷ «Disp20_A1» ∷ []) a) 3 0))
+
+-- of either kind
 abbrev pub countOf : Operand → ℕ
 countOf o = near o + far o
 

@@ -1,5 +1,5 @@
--- The direct choice for document 01: the opcode gives the few rows, each operand's base and number gives the nibble.
--- (A name that has no code gives a code that cannot say the key, which is no answer.)
+-- The direct choice for document 01: the opcode gives the few rows, each operand's base and number its name, and that the nibble.
+-- (A name outside a list has no code there; no names that go together come to that.)
 use Prim.Native.Nat.{ℕ, suc, _+_, _*_}
 use mathlib.Core.Bool.{Bool, true, false}
 use mathlib.Core.List.{List, [], _∷_}
@@ -32,7 +32,7 @@ narrow o z s =
     (pick (is o «Disp16_A1») (pick z «Deref_A1» (pick s «Disp8_A1» «Disp16_A1»))
     (pick (is o «Disp16_SB») (pick s «Disp8_SB» «Disp16_SB») o))
 
--- the address of MOVA and PUSHA is a sum: there 0 is not dropped
+-- no row of MOVA or PUSHA names Deref: there a displacement of 0 is not dropped
 unfoldable pub dropsZero : Opcode → Bool
 dropsZero o = pick (eqb (opcodeNo o) (opcodeNo MOVA)) false (pick (eqb (opcodeNo o) (opcodeNo PUSHA)) false true)
 

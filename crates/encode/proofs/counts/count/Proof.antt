@@ -5,7 +5,7 @@ use Rattle.record.specs.declared.Operand.the-variants.{Imm8, Imm16, «Bit_R0»,
 use Rattle.record.specs.Same.{is, among}
 use Rattle.record.proofs.Arms.{keys, others}
 use Rattle.choose.proofs.Placed.{by-names}
-use Rattle.encode.specs.Asks.{near, far}
+use Rattle.encode.specs.Slots.{near, far}
 use Rattle.encode.specs.Slots.{countOf}
 use Rattle.encode.proofs.counts.count.Statement.{statement}
 use Rattle.encode.proofs.counts.count.Tie as tie
