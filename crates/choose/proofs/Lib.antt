@@ -1,5 +1,4 @@
 pub mod Whole
 pub mod Placed
 pub mod OrImm
-pub mod SetBits
 pub mod Outcomes

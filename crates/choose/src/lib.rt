@@ -2,8 +2,6 @@
 pub mod names; // what a name is, by its number
 mod codes; // the code of a name in each list
 pub mod asks; // what the choice asks of a key
-mod sets; // the names that an opcode's rows have
-mod goes; // whether names go with an opcode
 mod shapes; // codes that several opcodes have in common
 mod single; // codes that one opcode has
 
@@ -119,7 +117,7 @@ fn choose_by(o: Opcode, q: Asked) -> Code
 pub fn choose(o: Opcode, q: Asked) -> Code
     ensures { λ r. ⌜ r ≡ coded (choice.chooseNamed o q) ⌝ }
 {
-    if goes::goes_with(o, q) {
+    if forms::goes_with(o, q) {
         return choose_by(o, q);
     }
     single::fixed(0, 0)

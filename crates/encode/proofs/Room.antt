@@ -1,13 +1,14 @@
 -- A plan's bytes in a buffer, from a place on: with room for them, and without.
 -- Assumes nothing.
 use Prim.Native.Nat.{ℕ, _+_, _-_, _≤_, _<_}
-use mathlib.Core.Path.{_≡_, sym, ap, _∙_}
-use mathlib.Core.List.{List, _++_, append-nil}
+use mathlib.Core.Path.{_≡_, ap, _∙_}
+use mathlib.Core.List.{List, _++_}
 use native.Mathlib.Omega.{arith}
-use lib.ListN.{length, take, drop, length-append, length-drop}
-use lib.Seq.{drop-drop, drop-length, take-length}
-use borrow.Rule.Slice.PartMut.{putMid, post-is}
+use lib.ListN.{length, take, drop, length-append}
+use lib.Seq.{drop-drop}
+use borrow.Rule.Slice.PartMut.{putMid}
 use borrow.Author.Tests.{le-leb, lt-leb}
+use Rattle.lent.proofs.Rest.{rest, given-back}
 use Rattle.shortest.specs.Digits.{digits}
 use Rattle.shortest.proofs.Runs.{digits-length}
 use Rattle.shortest.specs.Says.{bytes}
@@ -18,10 +19,6 @@ use Rattle.encode.specs.Plan.{planned, put}
 pub planned-length : (p : Plan) → length (planned p) ≡ 2 + p .count + p .«rest_count»
 planned-length p =
     omega (arith, length-append (digits (p .count) (p .number)) (digits (p .«rest_count») (p .rest)), digits-length (p .count) (p .number), digits-length (p .«rest_count») (p .rest))
-
--- a part from k to the end, as the code lends it, is what is left from k
-pub rest : (k : ℕ) (l : List ℕ) → take (length l - k) (drop k l) ≡ drop k l
-rest k l = ap (λ n. take n (drop k l)) (sym (length-drop k l)) ∙ take-length (drop k l)
 
 module _ (bs : List ℕ) (k : ℕ) (xs : List ℕ) where
   pub none : length bs < k + length xs → (6 ≡ written (bytes xs) bs k .no) × (0 ≡ written (bytes xs) bs k .length) × (bs ≡ written (bytes xs) bs k .buffer)
@@ -40,6 +37,5 @@ module _ (bs : List ℕ) (k : ℕ) (xs : List ℕ) where
     rw (le-leb _ _ h),
     rw (le-leb _ _ h) l,
     rw (le-leb _ _ h)
-        (ap (λ z. take k bs ++ (ys ++ z)) (post-is k (length bs) bs (omega arith) ∙ drop-length bs)
-        ∙ ap (λ z. take k bs ++ z) (append-nil ys ∙ e ∙ ap (put 0 xs) (rest k bs) ∙ begun)),
+        (given-back k bs (omega arith) ys ∙ ap (λ z. take k bs ++ z) (e ∙ ap (put 0 xs) (rest k bs) ∙ begun)),
   )

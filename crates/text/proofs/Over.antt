@@ -2,13 +2,14 @@
 -- Assumes nothing.
 use Prim.Native.Nat.{ℕ, suc, _+_, _-_, _≤_, _<_}
 use mathlib.Core.Path.{_≡_, sym, ap, _∙_, subst}
-use mathlib.Core.List.{List, [], _∷_, _++_, append-assoc, append-nil}
+use mathlib.Core.List.{List, [], _∷_, _++_, append-assoc}
 use native.Mathlib.Omega.{arith}
 use native.Mathlib.Numerals.{add-one}
 use lib.ListN.{length, take, drop, set, length-append, length-drop, take-append-drop}
-use lib.Seq.{append-snoc, take-suc-set, drop-set-lt, drop-drop, take-at, drop-at, drop-length, take-length, length-take-le}
-use borrow.Rule.Slice.PartMut.{putMid, post-is}
+use lib.Seq.{append-snoc, take-suc-set, drop-set-lt, drop-drop, take-at, drop-at, length-take-le}
+use borrow.Rule.Slice.PartMut.{putMid}
 use borrow.Author.Tests.{le-leb, lt-leb}
+use Rattle.lent.proofs.Rest.{rest, given-back}
 use Rattle.text.specs.declared.Written.{Written}
 use Rattle.text.specs.Left.{over, left}
 
@@ -31,16 +32,10 @@ from-one at c cs l h =
     ∙ ap (λ z. z ++ over cs (drop (suc at) (set l at c))) (sym (take-suc-set l at c h))
     ∙ ap (λ k. from k cs (set l at c)) (sym (add-one at))
 
--- what lies behind the place, as the code lends it
-pub rest : (at : ℕ) (l : List ℕ) → take (length l - at) (drop at l) ≡ drop at l
-rest at l = ap (λ n. take n (drop at l)) (sym (length-drop at l)) ∙ take-length (drop at l)
-
 module _ (at : ℕ) (l xs : List ℕ) (h : at + length xs ≤ length l) {ys : List ℕ} (e : ys ≡ over xs (take (length l - at) (drop at l))) where
   -- the buffer once a text was written over what was lent of it
   pub lent : putMid at (length l - at) l ys ≡ from at xs l
-  lent =
-      ap (λ z. take at l ++ (ys ++ z)) (post-is at (length l) l (omega arith) ∙ drop-length l)
-      ∙ ap (λ z. take at l ++ z) (append-nil ys ∙ e ∙ ap (over xs) (rest at l))
+  lent = given-back at l (omega arith) ys ∙ ap (λ z. take at l ++ z) (e ∙ ap (over xs) (rest at l))
 
   pub lent-length : length (putMid at (length l - at) l ys) ≡ length l
   lent-length =

@@ -6,7 +6,8 @@ use native.Mathlib.Omega.{arith}
 use lib.ListN.{length, length-drop}
 use borrow.Author.Needs.{needs}
 use Rattle.encode.specs.Plan.{planned}
-use Rattle.encode.proofs.Room.{none, some, rest, planned-length}
+use Rattle.lent.proofs.Rest.{rest}
+use Rattle.encode.proofs.Room.{none, some, planned-length}
 use Rattle.encode.proofs.write.write_at.Statement.{statement}
 use Rattle.encode.proofs.write.write_at.Tie as tie
 

@@ -11,7 +11,8 @@ use Rattle.record.specs.declared.Record.{Record}
 use Rattle.text.specs.Characters.{spelled}
 use Rattle.text.specs.Line.{lineOf, endText, refusedText}
 use Rattle.text.proofs.Lined.{line-short}
-use Rattle.text.proofs.Over.{rest, lent-length}
+use Rattle.lent.proofs.Rest.{rest}
+use Rattle.text.proofs.Over.{lent-length}
 use Rattle.sweep.proofs.Turns.{inside}
 use Rattle.pages.specs.Listing.{ended, listed}
 use Rattle.pages.proofs.Turns.{at-end, refused, accepted}

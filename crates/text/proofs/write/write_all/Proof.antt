@@ -8,7 +8,8 @@ use borrow.Author.Needs.{needs}
 use Rattle.text.specs.Left.{over}
 use Rattle.text.specs.Packed.{chars, text}
 use Rattle.text.proofs.Packing.{text-at, text-length, text-end}
-use Rattle.text.proofs.Over.{from, from-none, rest, lent-on, lent-length}
+use Rattle.lent.proofs.Rest.{rest}
+use Rattle.text.proofs.Over.{from, from-none, lent-on, lent-length}
 use Rattle.text.proofs.write.write_all.Statement.{statement}
 use Rattle.text.proofs.write.write_all.Tie as tie
 

@@ -1,0 +1,2 @@
+pub mod SetBits
+pub mod Outcomes
