@@ -61,15 +61,15 @@ fn whole_number(k: Key) -> u32
     }
 }
 
-// No row of MOVA (62) or PUSHA (77) names Deref: there a displacement of 0 is not dropped.
+// No row of MOVA or PUSHA names Deref: there a displacement of 0 is not dropped.
 fn drops_zero(o: Opcode) -> bool
     ensures { λ r. ⌜ r ≡ choice.dropsZero o ⌝ }
 {
     let n = numbers::opcode_number(o);
-    if n == 62 {
+    if n == numbers::opcode_number(Opcode::MOVA) {
         return false;
     }
-    n != 77
+    n != numbers::opcode_number(Opcode::PUSHA)
 }
 
 fn zero_dropped(k: Key) -> bool

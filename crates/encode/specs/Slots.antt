@@ -21,7 +21,7 @@ near a =
     pick (among («Disp8_A0» ∷ «Disp8_A1» ∷ «Disp8_SB» ∷ «Disp8_FB» ∷ «Disp8_SP» ∷ «Bit_R0» ∷ «Bit_R1» ∷ «Bit_R2» ∷ «Bit_R3» ∷ «Bit_A0» ∷ «Bit_A1» ∷ «Bit_Disp8_A0» ∷ «Bit_Disp8_A1» ∷ «Bit_Disp8_SB» ∷ «Bit_Disp8_FB» ∷ []) a) 1
     (pick (among («Disp16_A0» ∷ «Disp16_A1» ∷ «Disp16_SB» ∷ Abs16 ∷ «Bit_Disp16_A0» ∷ «Bit_Disp16_A1» ∷ «Bit_Disp16_SB» ∷ «Bit_Abs16» ∷ []) a) 2 0)
 
--- how many of another number
+-- how many bytes of another number
 unfoldable pub far : Operand → ℕ
 far a = pick (among (Imm8 ∷ Disp8 ∷ []) a) 1 (pick (is a Imm16) 2 (pick (among (Abs20 ∷ «Disp20_A0» ∷ «Disp20_A1» ∷ []) a) 3 0))
 
@@ -52,9 +52,11 @@ count0 f = pick (wholeRow f) 0 (countOf (f .op0))
 abbrev pub count1 : Face → ℕ → ℕ
 count1 f c = pick (eqb c 0) (countOf (f .op1)) 1
 
+-- its number
 abbrev pub number1 : ℕ → Key → ℕ
 number1 c k = pick (eqb c 0) (k .number1) (condByte (k .opcode))
 
+-- the bytes of both, in their order
 unfoldable pub slots : Face → ℕ → Key → List ℕ
 slots f c k =
     pick (turns (f .op0)) (digits (count1 f c) (number1 c k) ++ digits (count0 f) (k .number0)) (digits (count0 f) (k .number0) ++ digits (count1 f c) (number1 c k))

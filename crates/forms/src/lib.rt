@@ -10,6 +10,7 @@ ghost use Rattle.record.specs.Same.{among};
 ghost use Rattle.record.specs.declared.Width.the-variants.{None};
 ghost use Rattle.shortest.specs.Forms.{formOf, names, sizeFor, numberLimit, goesWith};
 use record::Opcode;
+use record::Operand;
 use record::Width;
 use record::numbers;
 use shortest::Asked;
@@ -29,12 +30,12 @@ fn all_in(first: u64, second: u64, q: Asked) -> bool
     false
 }
 
-// A number that is part of the code: of Imm4, number 1, or of Imm8.
+// A number that is part of the code, of Imm4 or of Imm8.
 fn number_goes(q: Asked) -> bool
     ensures { λ r. ⌜ r ≡ ltb (q .number) (numberLimit (q .op0)) ⌝ }
 {
     let op0 = q.op0;
-    if numbers::operand_number(op0) == 1 {
+    if numbers::operand_number(op0) == numbers::operand_number(Operand::Imm4) {
         return q.number < 16;
     }
     q.number < 64

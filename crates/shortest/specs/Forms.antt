@@ -19,9 +19,11 @@ use Rattle.record.specs.Same.{is, among}
 use Rattle.rows.specs.Codes.{byteNames, wordNames}
 use Rattle.shortest.specs.declared.Asked.{Asked}
 
+-- Half is MOVLL and MOVHH, HalfRegister MOVLH and MOVHL, which are unmarked at R0L, A0 and A1 only
 pub data Form : Type 0 where
   Unused General SizedGeneral GeneralOrImmediate ImmediateAlone Immediate Sum Move Rotate Shift Decimal Block Bit FlagOrBit Enter Plain Extend Interrupt Jump Indirect LoadControl LoadContext StoreContext LoadFar StoreFar Address PushAddress Half HalfRegister Multiply Exchange StoreControl Control : Form
 
+-- the form of each opcode; those without an unmarked row have none
 unfoldable pub formOf : Opcode → Form
 formOf NOP = Unused
 formOf ABS = General
@@ -168,10 +170,11 @@ carries Exchange = true
 carries StoreControl = false
 carries Control = false
 
+-- the size of a form's rows at a width
 abbrev pub sizeFor : Form → Width → Size
 sizeFor f w = pick (carries f) (carried w) size.None
 
--- names of a row's operand 0, and of its operand 1
+-- of a row's operand 0, and of its operand 1
 pub record Names : Type 0 where
   pub first : List Operand
   pub second : List Operand
@@ -179,6 +182,7 @@ pub record Names : Type 0 where
 abbrev pub go : List Operand → List Operand → Names
 go xs ys = record { first = xs; second = ys }
 
+-- document 01's lists: General by width, an immediate by width
 abbrev pub general : Width → List Operand
 general w = at w byteNames wordNames []
 
@@ -189,18 +193,22 @@ immediate w = at w (Imm8 ∷ []) (Imm16 ∷ []) []
 abbrev pub shifted : Width → List Operand → List Operand
 shifted w long = at w (take 3 byteNames ++ drop 4 byteNames) (R0 ∷ drop 2 wordNames) long
 
+-- the operand beside G(n) of LDE and STE
 abbrev pub far : List Operand
 far = Abs20 ∷ «Disp20_A0» ∷ «Deref_A1A0» ∷ []
 
+-- Bit, and Control without the code that names nothing
 abbrev pub bits : List Operand
 bits = «Bit_R0» ∷ «Bit_R1» ∷ «Bit_R2» ∷ «Bit_R3» ∷ «Bit_A0» ∷ «Bit_A1» ∷ «Bit_Deref_A0» ∷ «Bit_Deref_A1» ∷ «Bit_Disp8_A0» ∷ «Bit_Disp8_A1» ∷ «Bit_Disp8_SB» ∷ «Bit_Disp8_FB» ∷ «Bit_Disp16_A0» ∷ «Bit_Disp16_A1» ∷ «Bit_Disp16_SB» ∷ «Bit_Abs16» ∷ []
 
 abbrev pub controls : List Operand
 controls = INTBL ∷ INTBH ∷ FLG ∷ ISP ∷ SP ∷ SB ∷ FB ∷ []
 
+-- no operand
 abbrev pub none : List Operand
 none = Nothing ∷ []
 
+-- the names that a form's rows have: where the first list is empty, it has no row at that width
 abbrev pub names : Form → Width → Names
 names Unused w = go [] []
 names General w = go (general w) none
