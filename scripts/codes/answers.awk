@@ -7,11 +7,11 @@ part == "answers" && /^[0-8]/ {
     if ($1 >= 2 && ($3 == 2 || $3 == 3)) refuse(substr($2, 1, 4), $3)
 }
 
-# numbers are those of the opcode, its size and the operands: OOSPPQQUU
+# numbers are those of the opcode, its size and the operands: OOSPPQQUU. They are compared as text, since 5E1 is also a decimal number.
 function accept(code, numbers, imm_wide, length_said) {
     if ((code in length_of) && length_of[code] != length_said)
         stop("the stored answers give " spaced(code) " two lengths")
-    if ((code in numbers_of) && numbers_of[code] != numbers)
+    if ((code in numbers_of) && numbers_of[code] "" != numbers "")
         named_behind[code] = 1
     length_of[code] = length_said
     numbers_of[code] = numbers
