@@ -8,7 +8,7 @@ use record::Operand;
 use record::Width;
 use record::numbers;
 
-// The twelve names that G has at every width.
+// The twelve names that G has at every width; J has most of them.
 fn memory_code(o: Operand) -> u64
     ensures { λ r. ⌜ (r ≡ 4 + place (drop 4 wordNames) o) × (r ≤ 16) ⌝ }
 {
@@ -37,7 +37,19 @@ fn byte_code(o: Operand) -> u64
         Operand::R0H => 1,
         Operand::R1L => 2,
         Operand::R1H => 3,
-        _ => memory_code(o),
+        Operand::A0 => 4,
+        Operand::A1 => 5,
+        Operand::Deref_A0 => 6,
+        Operand::Deref_A1 => 7,
+        Operand::Disp8_A0 => 8,
+        Operand::Disp8_A1 => 9,
+        Operand::Disp8_SB => 10,
+        Operand::Disp8_FB => 11,
+        Operand::Disp16_A0 => 12,
+        Operand::Disp16_A1 => 13,
+        Operand::Disp16_SB => 14,
+        Operand::Abs16 => 15,
+        _ => 16,
     }
 }
 
@@ -49,7 +61,19 @@ fn word_code(o: Operand) -> u64
         Operand::R1 => 1,
         Operand::R2 => 2,
         Operand::R3 => 3,
-        _ => memory_code(o),
+        Operand::A0 => 4,
+        Operand::A1 => 5,
+        Operand::Deref_A0 => 6,
+        Operand::Deref_A1 => 7,
+        Operand::Disp8_A0 => 8,
+        Operand::Disp8_A1 => 9,
+        Operand::Disp8_SB => 10,
+        Operand::Disp8_FB => 11,
+        Operand::Disp16_A0 => 12,
+        Operand::Disp16_A1 => 13,
+        Operand::Disp16_SB => 14,
+        Operand::Abs16 => 15,
+        _ => 16,
     }
 }
 

@@ -1,5 +1,6 @@
 // The name of each number; a number too large names what the blank record holds. That is tested before the match, so that behind a
-// caller's own test nothing is left of either: the number is the name.
+// caller's own test nothing is left of either: the number is the name. (Of a match with three arms the compiler makes choices, so the
+// widths have a fourth.)
 ghost use mathlib.Core.Path.{_≡_};
 ghost use Rattle.record.specs.Names.{opcodeAt, sizeAt, widthAt, operandAt};
 use crate::Opcode;
@@ -138,7 +139,8 @@ pub fn width_at(n: u32) -> Width
     match n {
         0 => Width::None,
         1 => Width::B,
-        _ => Width::W,
+        2 => Width::W,
+        _ => Width::None,
     }
 }
 
