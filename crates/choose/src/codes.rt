@@ -8,7 +8,7 @@ use record::Operand;
 use record::Width;
 use record::numbers;
 
-// The twelve names that G has at every width; J has most of them.
+// The twelve names that G has at every width, for J. G has them again, so that one lookup is enough for it.
 fn memory_code(o: Operand) -> u64
     ensures { λ r. ⌜ (r ≡ 4 + place (drop 4 wordNames) o) × (r ≤ 16) ⌝ }
 {

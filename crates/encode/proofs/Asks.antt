@@ -2,9 +2,7 @@
 -- reads what its names ask for.
 -- Assumes nothing.
 use Rattle.rows.specs.Run.{twentyBits}
-use Rattle.rows.specs.Codes.{condOf}
 use Rattle.record.specs.declared.Operand.the-variants.{«Disp8_SP»}
-use Rattle.record.specs.declared.Opcode.{Opcode}
 use Prim.Native.Nat.{ℕ, zero, suc, _≤_, _<_, _+_, _^_}
 use mathlib.Core.Path.{_≡_, refl, sym, ap, ap₂, subst, _∙_}
 use mathlib.Core.Bool.{Bool, true}
@@ -21,8 +19,9 @@ use Rattle.rows.specs.Rows.{known, rowsOf, document01}
 use Rattle.rows.proofs.All.{every-code}
 use Rattle.shortest.specs.Digits.{digits}
 use Rattle.shortest.specs.Can.{fits}
-use Rattle.shortest.specs.Search.{condByte, disps, conds, nth, spell, live, means}
+use Rattle.shortest.specs.Search.{condByte, disps, conds, nth, spell, live}
 use Rattle.shortest.specs.Coarse.{whole, wholeRow}
+use Rattle.shortest.proofs.Formed.{meant}
 use Rattle.shortest.proofs.Bools.{so, both-true, both-last, picked}
 use Rattle.encode.specs.Slots.{near, far}
 use Rattle.encode.proofs.Slim.{slim, oneNum, oneRead, oneList, one-list, slim-spell, slim-fits}
@@ -77,14 +76,10 @@ fittingNumber (suc zero) v = ltb v (256 ^ 1)
 fittingNumber (suc (suc zero)) v = ltb v (256 ^ 2)
 fittingNumber (suc (suc (suc n))) v = ltb v twentyBits
 
-abbrev pub fittingCondition : ℕ → Opcode → Bool
-fittingCondition zero o = true
-fittingCondition (suc n) o = means (condOf (condByte o)) o
-
 unfoldable pub allFitting : Face → ℕ → Record → Bool
 allFitting f c t =
     both (fitting (before f) (front (behind f) t))
-    (both (fitting (behind f) (t .dispabs)) (both (fittingNumber (further f) (t .«imm_wide»)) (fittingCondition c (t .opcode))))
+    (both (fitting (behind f) (t .dispabs)) (both (fittingNumber (further f) (t .«imm_wide»)) (meant c (t .opcode))))
 
 asNamed : ℕ → ℕ → Bool
 asNamed a b =
@@ -142,7 +137,7 @@ module _ (t : Record) where
   in-number (suc (suc (suc zero))) rs h = refl
   in-number (suc (suc (suc (suc n)))) rs h = let z : ⊥ = omega (arith, h) in absurd z
 
-  in-condition : (n : ℕ) → fits (condition n) t ≡ fittingCondition n (t .opcode)
+  in-condition : (n : ℕ) → fits (condition n) t ≡ meant n (t .opcode)
   unfolding fits
   in-condition zero = refl
   in-condition (suc n) = both-last _

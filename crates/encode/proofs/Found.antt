@@ -1,6 +1,6 @@
 -- The row at the chosen code has the names that were asked for: whether it can say the record, and by which bytes.
 -- Assumes nothing.
-use Prim.Native.Nat.{ℕ, zero, suc, _<_}
+use Prim.Native.Nat.{ℕ, _<_}
 use mathlib.Core.Path.{_≡_, refl, sym, ap, ap₂, subst, _∙_}
 use mathlib.Core.Bool.{Bool, true, false}
 use mathlib.Core.List.{_∷_}
@@ -26,9 +26,8 @@ use Rattle.shortest.specs.Direct.{Choice, code, nothing, able, taken}
 use Rattle.shortest.specs.Forms.{formOf, numberLimit, goesWith}
 use Rattle.shortest.specs.Choose.{asked, dropsZero, chooseBy, chooseNamed, encoded}
 use Rattle.shortest.proofs.Bools.{so, both-true, picked}
-use Rattle.shortest.proofs.Formed.{Formed, formed, meant}
+use Rattle.shortest.proofs.Formed.{Formed, formed}
 use Rattle.encode.specs.declared.Plan.{Plan}
-use Rattle.encode.proofs.Asks.{fittingCondition}
 use Rattle.encode.specs.Faced.{faceBy, conditions}
 use Rattle.encode.specs.Plan.{planned, foundBy}
 use Rattle.encode.specs.Slots as slots
@@ -61,14 +60,11 @@ known-code a e = by (eqb a 0) refl
     by true q = sym e ∙ ap known (eqb-true a 0 q)
 
 -- a code is chosen only for names that go together
-abbrev Coded : Choice → ℕ → ℕ → Type 0
-Coded x a b = x ≡ code a b
-
 abbrev isCode : Choice → Bool
 isCode (code a b) = true
 isCode nothing = false
 
-both-chosen : (g : Bool) (x : Choice) (a b : ℕ) → Coded (pick g x nothing) a b → (g ≡ true) × Coded x a b
+both-chosen : (g : Bool) (x : Choice) (a b : ℕ) → pick g x nothing ≡ code a b → (g ≡ true) × (x ≡ code a b)
 both-chosen true x a b e = (refl, e)
 both-chosen false x a b e = absurd (subst T (sym (ap isCode e)) tt)
 
@@ -105,9 +101,6 @@ module _ (r : Record) (third : is (r .op2) Nothing ≡ true) (a b : ℕ) (chosen
   the-row =
       let x = both-chosen (goesWith (formOf (k .opcode)) q) (chooseBy (k .opcode) q) a b chosen in
       formed (k .opcode) q a b (x .0) in-code (x .1)
-
-  first-below : a < 256
-  first-below = ltb-true _ _ (both-true (ltb a 256) _ (the-row .there) .0)
 
   pub second-below : b < 256
   second-below = ltb-true _ _ (both-true (ltb b 256) _ (both-true (ltb a 256) _ (the-row .there) .1) .0)
@@ -147,18 +140,13 @@ module _ (r : Record) (third : is (r .op2) Nothing ≡ true) (a b : ℕ) (chosen
       let l : k .number0 < numberLimit (q .op0) = subst (λ v. v < numberLimit (q .op0)) n (subst (λ w. q .number < pick w (numberLimit (q .op0)) 1) w (the-row .ranged)) in
       (the-row .number ∙ n, ap (λ o. ltb (k .number0) (limitOf o)) (the-row .op0) ∙ part-small (q .op0) (k .number0) (both-true (eqb (widthNo (q .width)) 0) _ w .1) l)
 
-  -- a condition that is read has a byte
-  byte-there : (n : ℕ) → meant n (k .opcode) ≡ true → fittingCondition n (k .opcode) ≡ true
-  byte-there zero h = h
-  byte-there (suc n) h = h
-
   able-is : able document01 a b k ≡ slots.fitting (faceBy q) k
   unfolding able slots.fitting
   able-is =
       ap (λ g. both g (can (document01 .rowAt a b) k)) (the-row .there)
       ∙ said a b e second-below (the-row .lives) k
       ∙ agree _
-      ∙ said-if-small a b e second-below (the-row .lives) k (byte-there (conds (document01 .rowAt a b .reads)) (the-row .condition)) part
+      ∙ said-if-small a b e second-below (the-row .lives) k (the-row .condition) part
       ∙ (λ j. both (ltb (k .number0) (limitOf (the-row .op0 j))) (ltb (k .number1) (limitOf (the-row .op1 j))))
 
   pub not-said : slots.fitting (faceBy q) k ≡ false → none ≡ encoded r

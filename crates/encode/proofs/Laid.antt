@@ -13,8 +13,9 @@ use Rattle.record.specs.Same.{is, Field, nowhere, wide, short, early, fieldOf}
 use Rattle.rows.specs.Row.{Face}
 use Rattle.shortest.specs.Digits.{digits}
 use Rattle.shortest.specs.Search.{dispFor, firstFor, aim, condByte, wideFor}
+use Rattle.shortest.proofs.Formed.{meant}
 use Rattle.encode.specs.Slots.{near}
-use Rattle.encode.proofs.Asks.{before, behind, further, front, numbers, fitting, fittingNumber, fittingCondition, allFitting}
+use Rattle.encode.proofs.Asks.{before, behind, further, front, numbers, fitting, fittingNumber, allFitting}
 use Rattle.encode.specs.Value.{isShort}
 use Rattle.encode.proofs.Fields.{no, some, near-some, sp-short}
 
@@ -48,7 +49,7 @@ laid p = digits (p .before) (p .front) ++ (digits (p .behind) (p .back) ++ (digi
 
 -- each fits in its bytes
 abbrev pub fitParts : Parts → Opcode → Bool
-fitParts p o = both (fitting (p .before) (p .front)) (both (fitting (p .behind) (p .back)) (both (fittingNumber (p .further) (p .wide)) (fittingCondition (p .conditions) o)))
+fitParts p o = both (fitting (p .before) (p .front)) (both (fitting (p .behind) (p .back)) (both (fittingNumber (p .further) (p .wide)) (meant (p .conditions) o)))
 
 -- n and m are the bytes of the two operands' displacements, f and g their fields, s that operand 0 is Disp8_SP
 module _ (k : Key) where

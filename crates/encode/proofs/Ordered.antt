@@ -28,8 +28,9 @@ use Rattle.shortest.specs.Coarse.{whole, wholeRow}
 use Rattle.shortest.specs.Forms.{numberLimit}
 use Rattle.shortest.proofs.Bools.{so, both-last, picked, level}
 use Rattle.choose.specs.Coded.{isWide}
+use Rattle.shortest.proofs.Formed.{meant}
 use Rattle.encode.specs.Slots.{near, far}
-use Rattle.encode.proofs.Asks.{before, behind, further, fitting, fittingNumber, fittingCondition}
+use Rattle.encode.proofs.Asks.{before, behind, further, fitting, fittingNumber}
 use Rattle.encode.proofs.Laid.{parts, laid}
 use Rattle.encode.proofs.Sayable.{sayable}
 use Rattle.encode.specs.Slots as slots
@@ -162,7 +163,7 @@ module _ (k : Key) where
 
   -- a row can say a key if its limits hold, where what is part of its code is right
   held : (f : Face) (own c : ℕ) → (isWide (fieldOf (f .op0)) ≡ true → exact (fieldOf (f .op0)) (further f) own (k .number0) ≡ true) → (isWide (fieldOf (f .op1)) ≡ true → exact (fieldOf (f .op1)) (further f) own (k .number1) ≡ true)
-      → fittingCondition c (k .opcode) ≡ true → sayable f own c k ≡ hold (limitTags f) k
+      → meant c (k .opcode) ≡ true → sayable f own c k ≡ hold (limitTags f) k
   unfolding sayable
   held f own c h0 h1 m =
       let s = is (f .op0) «Disp8_SP» in
@@ -234,7 +235,7 @@ both-turned true false = refl
 both-turned false true = refl
 both-turned false false = refl
 
-module _ (k : Key) (f : Face) (own c : ℕ) (m : fittingCondition c (k .opcode) ≡ true) where
+module _ (k : Key) (f : Face) (own c : ℕ) (m : meant c (k .opcode) ≡ true) where
   -- the number of operand 0 is part of the code
   as-part : (further f ≡ 0) → own ≡ k .number0 → ltb (k .number0) (limitOf (f .op0)) ≡ true → T (oneEach true f) → T (isRead true f) → sayable f own c k ≡ slots.fitting f k
   unfolding slots.fitting hold
@@ -265,7 +266,7 @@ module _ (k : Key) (f : Face) (own c : ℕ) (m : fittingCondition c (k .opcode) 
 
 -- a live row can say the numbers of a key that are small enough, where what is part of its code is right
 pub said-if-small : (a b : ℕ) → known a ≡ true → b < 256 → live (document01 .rowAt a b) ≡ true → (k : Key)
-    → fittingCondition (conds (document01 .rowAt a b .reads)) (k .opcode) ≡ true
+    → meant (conds (document01 .rowAt a b .reads)) (k .opcode) ≡ true
     → (wholeRow (document01 .rowAt a b .face) ≡ true → (document01 .rowAt a b .number ≡ k .number0) × (ltb (k .number0) (limitOf (document01 .rowAt a b .face .op0)) ≡ true))
     → sayable (document01 .rowAt a b .face) (document01 .rowAt a b .number) (conds (document01 .rowAt a b .reads)) k ≡ slots.fitting (document01 .rowAt a b .face) k
 said-if-small a b e l v k m h = by (wholeRow f) refl (limited-at a b e l v .each) (limited-at a b e l v .read)

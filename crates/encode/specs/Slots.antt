@@ -1,4 +1,5 @@
 -- The numbers of a key behind a code: each operand's in its bytes, in their order, and a condition.
+-- (Steps of the encoder: that the rows read them so is proved, not believed.)
 use Prim.Native.Nat.{ℕ, zero, suc, _+_}
 use mathlib.Core.Bool.{Bool}
 use mathlib.Core.List.{List, [], _∷_, _++_}

@@ -1,5 +1,5 @@
-// The names and the size that an opcode's unmarked rows have, by width: bit n of a set is the name of number n; of the first, bit 57
-// and n is the size of number n.
+// The names and the size that an opcode's unmarked rows have, by width: bit n of a set is the name of number n, and bit 57 + n of a
+// first set is the size of number n.
 ghost use mathlib.Core.Path.{_≡_};
 ghost use Prim.Native.Nat.{_+_, _^_, _/_, _%_};
 ghost use lib.Dec.{eqb};

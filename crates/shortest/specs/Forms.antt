@@ -189,7 +189,7 @@ general w = at w byteNames wordNames []
 abbrev pub immediate : Width → List Operand
 immediate w = at w (Imm8 ∷ []) (Imm16 ∷ []) []
 
--- what a shift can shift: not R1H at B or R1 at W, which is one of its own operands
+-- what a shift can shift: not R1H at B, which is its count, nor R1 at W, which holds it
 abbrev pub shifted : Width → List Operand → List Operand
 shifted w long = at w (take 3 byteNames ++ drop 4 byteNames) (R0 ∷ drop 2 wordNames) long
 
