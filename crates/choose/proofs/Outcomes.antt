@@ -6,7 +6,7 @@ use Rattle.record.specs.declared.Key.{Key}
 use Rattle.record.specs.declared.Opcode.{Opcode}
 use Rattle.record.specs.declared.Operand.{Operand}
 use Rattle.record.specs.declared.Width.{Width}
-use Rattle.record.specs.Same.{is, fieldOf}
+use Rattle.record.specs.Same.{sameName, fieldOf}
 use Rattle.shortest.specs.declared.Asked.{Asked}
 use Rattle.shortest.specs.Choose as choice
 use Rattle.shortest.specs.Coarse.{whole}
@@ -18,8 +18,8 @@ choose o q = one-outcome (coded (choice.chooseNamed o q))
 pub asked : (k : Key) → OneOutcome (choice.asked k)
 asked k = one-outcome (choice.asked k)
 
-pub same : (a b : Operand) → OneOutcome (is a b)
-same a b = one-outcome (is a b)
+pub same : (a b : Operand) → OneOutcome (sameName a b)
+same a b = one-outcome (sameName a b)
 
 pub is-wide : (o : Operand) → OneOutcome (isWide (fieldOf o))
 is-wide o = one-outcome (isWide (fieldOf o))

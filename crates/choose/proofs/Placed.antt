@@ -12,7 +12,7 @@ use Rattle.tests.specs.Choice.{pick, both}
 use Rattle.tests.specs.Table.{every}
 use Rattle.record.specs.declared.Operand.{Operand}
 use Rattle.record.specs.Numbers.{operandNo}
-use Rattle.record.specs.Same.{is}
+use Rattle.record.specs.Same.{sameName}
 use Rattle.record.proofs.Operand.{the-type}
 use Rattle.record.proofs.Apart.{operands}
 use Rattle.record.proofs.Arms.{agreed, numbered, every-operand}
@@ -30,19 +30,19 @@ module _ (f : Operand → ℕ) (b : ℕ) where
 
 -- names of bits and of control registers stand together, in the order of their codes
 bits : (o : Operand) → codeT o ≡ pick (ltb (operandNo o) 17) 16 (pick (ltb 32 (operandNo o)) 16 (operandNo o - 17))
-unfolding place is
+unfolding place sameName
 bits o = eqb-true _ _ (so _ (every-operand (λ o. eqb (codeT o) (pick (ltb (operandNo o) 17) 16 (pick (ltb 32 (operandNo o)) 16 (operandNo o - 17)))) tt o))
 
 bits-below : (o : Operand) → codeT o ≤ 16
-unfolding place is
+unfolding place sameName
 bits-below o = leb-true _ _ (so _ (every-operand (λ o. leb (codeT o) 16) tt o))
 
 controls : (o : Operand) → codeK o ≡ pick (eqb (operandNo o) 0) 0 (pick (ltb (operandNo o) 50) 8 (operandNo o - 49))
-unfolding place is
+unfolding place sameName
 controls o = eqb-true _ _ (so _ (every-operand (λ o. eqb (codeK o) (pick (eqb (operandNo o) 0) 0 (pick (ltb (operandNo o) 50) 8 (operandNo o - 49)))) tt o))
 
 controls-below : (o : Operand) → codeK o ≤ 8
-unfolding place is
+unfolding place sameName
 controls-below o = leb-true _ _ (so _ (every-operand (λ o. leb (codeK o) 8) tt o))
 
 bounded : {v n b : ℕ} → n ≤ b → v ≡ n → (v ≡ n) × (v ≤ b)

@@ -8,15 +8,15 @@ use Rattle.record.specs.declared.Operand.{Operand}
 use Rattle.record.specs.declared.Operand.the-variants.{Imm4, Imm8}
 use Rattle.record.specs.declared.Width.{Width}
 use Rattle.record.specs.Numbers.{widthNo}
-use Rattle.record.specs.Same.{is}
+use Rattle.record.specs.Same.{sameName}
 use Rattle.shortest.specs.Coarse.{whole}
 
 module _ (w : Width) (o : Operand) where
-  pub whole-first : widthNo w ≡ 0 → is o Imm4 ≡ true → true ≡ whole w o
+  pub whole-first : widthNo w ≡ 0 → sameName o Imm4 ≡ true → true ≡ whole w o
   unfolding whole
   whole-first z i = rw (eq-eqb _ _ z) (rw i refl)
 
-  pub whole-second : widthNo w ≡ 0 → is o Imm4 ≡ false → is o Imm8 ≡ whole w o
+  pub whole-second : widthNo w ≡ 0 → sameName o Imm4 ≡ false → sameName o Imm8 ≡ whole w o
   unfolding whole
   whole-second z i = rw (eq-eqb _ _ z) (rw i refl)
 

@@ -1,6 +1,6 @@
 // What a name is.
 ghost use mathlib.Core.Path.{_≡_};
-ghost use Rattle.record.specs.Same.{is, fieldOf};
+ghost use Rattle.record.specs.Same.{sameName, fieldOf};
 ghost use Rattle.shortest.specs.Coarse.{whole};
 ghost use Rattle.choose.specs.Coded.{isWide};
 use record::Operand;
@@ -8,7 +8,7 @@ use record::Width;
 use record::numbers;
 
 pub fn same(a: Operand, b: Operand) -> bool
-    ensures { λ r. ⌜ r ≡ is a b ⌝ }
+    ensures { λ r. ⌜ r ≡ sameName a b ⌝ }
 {
     numbers::operand_number(a) == numbers::operand_number(b)
 }

@@ -12,7 +12,7 @@ use native.Mathlib.Omega.{arith}
 use borrow.Author.Tests.{leb-true}
 use Rattle.tests.specs.Choice.{pick, both}
 use Rattle.record.specs.declared.Record.{Record}
-use Rattle.record.specs.Same.{is, among, fieldOf, baseOf}
+use Rattle.record.specs.Same.{sameName, among, fieldOf, baseOf}
 use Rattle.rows.specs.All.{everyCode}
 use Rattle.rows.specs.Row.{Read, Face, Row, disp, imm, imm20, num, cond}
 use Rattle.rows.specs.Rows.{known, rowsOf, document01}
@@ -42,10 +42,10 @@ condition (suc n) = cond ∷ []
 
 -- Disp8_SP is read behind the other operand
 abbrev pub before : Face → ℕ
-before f = pick (is (f .op0) «Disp8_SP») (near (f .op1)) (near (f .op0))
+before f = pick (sameName (f .op0) «Disp8_SP») (near (f .op1)) (near (f .op0))
 
 abbrev pub behind : Face → ℕ
-behind f = pick (is (f .op0) «Disp8_SP») 1 (near (f .op1))
+behind f = pick (sameName (f .op0) «Disp8_SP») 1 (near (f .op1))
 
 -- a number that is part of the code is not read
 abbrev pub further : Face → ℕ
@@ -87,7 +87,7 @@ asNamed a b =
     pick (live w) (both (leb (further (w .face)) 3) (both (leb (conds (w .reads)) 1) (oneList (slim (w .reads)) (readsOf (w .face) (conds (w .reads)))))) true
 
 all-named : T (everyCode asNamed)
-unfolding everyCode asNamed rowsOf oneList oneRead oneNum slim readsOf near far is among conds fieldOf baseOf whole
+unfolding everyCode asNamed rowsOf oneList oneRead oneNum slim readsOf near far sameName among conds fieldOf baseOf whole
 all-named = tt
 
 record Named (w : Row) : Type 0 where

@@ -8,7 +8,7 @@ use lib.Dec.{eqb}
 use borrow.Author.Tests.{eqb-true, ne-eqb}
 use Rattle.record.specs.declared.Operand.{Operand}
 use Rattle.record.specs.declared.Operand.the-variants.{«Disp8_SP»}
-use Rattle.record.specs.Same.{is, among, Field, nowhere, wide, short, early, fieldOf}
+use Rattle.record.specs.Same.{sameName, among, Field, nowhere, wide, short, early, fieldOf}
 use Rattle.record.proofs.Apart.{operands-apart}
 use Rattle.record.proofs.Arms.{every-operand, bit, bits-apart}
 use Rattle.shortest.proofs.Bools.{so}
@@ -20,7 +20,7 @@ pub no : {A : Type 0} → true ≡ false → A
 no e = absurd (false≢true (sym e))
 
 near-short : (o : Operand) → not (eqb (near o) 0) ≡ isShort (fieldOf o)
-unfolding near is among fieldOf
+unfolding near sameName among fieldOf
 near-short o = bits-apart _ _ (eqb-true _ _ (so _ (every-operand (λ o. eqb (bit (not (eqb (near o) 0))) (bit (isShort (fieldOf o)))) tt o)))
 
 -- some bytes, or none
@@ -35,8 +35,8 @@ not-zero (suc n) = ap not (sym (ne-eqb (suc n) 0 (λ e. absurd (omega (arith, e)
 pub near-some : (o : Operand) → some (near o) ≡ isShort (fieldOf o)
 near-some o = not-zero (near o) ∙ near-short o
 
-pub sp-short : (o : Operand) → is o «Disp8_SP» ≡ true → isShort (fieldOf o) ≡ true
-unfolding is among fieldOf
+pub sp-short : (o : Operand) → sameName o «Disp8_SP» ≡ true → isShort (fieldOf o) ≡ true
+unfolding sameName among fieldOf
 sp-short o e = ap (λ o. isShort (fieldOf o)) (operands-apart o «Disp8_SP» (eqb-true _ _ e))
 
 -- no name asks for `first` by itself
@@ -47,5 +47,5 @@ isEarly wide = false
 isEarly short = false
 
 pub never-early : (o : Operand) → isEarly (fieldOf o) ≡ false
-unfolding is among fieldOf
+unfolding sameName among fieldOf
 never-early o = bits-apart _ _ (eqb-true _ _ (so _ (every-operand (λ o. eqb (bit (isEarly (fieldOf o))) 0) tt o)))

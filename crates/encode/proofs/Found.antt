@@ -12,7 +12,7 @@ use Rattle.record.specs.declared.Record.{Record}
 use Rattle.record.specs.declared.Key.{Key}
 use Rattle.record.specs.declared.Operand.the-variants.{Nothing}
 use Rattle.record.specs.Numbers.{sizeNo, widthNo, operandNo}
-use Rattle.record.specs.Same.{is, among, fieldOf, baseOf, valueOf, key}
+use Rattle.record.specs.Same.{sameName, among, fieldOf, baseOf, valueOf, key}
 use Rattle.record.proofs.Apart.{operands-apart}
 use Rattle.rows.specs.All.{everyCode}
 use Rattle.rows.specs.Rows.{known, rowsOf, document01}
@@ -68,7 +68,7 @@ both-chosen : (g : Bool) (x : Choice) (a b : ℕ) → pick g x nothing ≡ code 
 both-chosen true x a b e = (refl, e)
 both-chosen false x a b e = absurd (subst T (sym (ap isCode e)) tt)
 
-module _ (r : Record) (third : is (r .op2) Nothing ≡ true) (a b : ℕ) (chosen : chooseNamed (r .opcode) (asked (key r)) ≡ code a b) where
+module _ (r : Record) (third : sameName (r .op2) Nothing ≡ true) (a b : ℕ) (chosen : chooseNamed (r .opcode) (asked (key r)) ≡ code a b) where
   abbrev k : Key
   k = key r
 
@@ -89,7 +89,7 @@ module _ (r : Record) (third : is (r .op2) Nothing ≡ true) (a b : ℕ) (chosen
   small1 = ltb (k .number1) 256
 
   no-third : r .op2 ≡ Nothing
-  unfolding is
+  unfolding sameName
   no-third = operands-apart _ _ (eqb-true _ _ third)
 
   -- a number that is not part of the code is not asked for
@@ -113,7 +113,7 @@ module _ (r : Record) (third : is (r .op2) Nothing ≡ true) (a b : ℕ) (chosen
 
   -- its names agree with the key's
   agree : (rest : Bool) → agreeing (document01 .rowAt a b .face) (conds (document01 .rowAt a b .reads)) k rest ≡ rest
-  unfolding fieldOf among is
+  unfolding fieldOf among sameName
   agree rest =
       let w = document01 .rowAt a b in
       let base0 : baseOf (w .face .op0) ≡ k .base0 = ap baseOf (the-row .op0) ∙ base-kept zero0 small0 (r .op0) in

@@ -9,7 +9,7 @@ use mathlib.Core.Logic.{_⊎_, inl, inr}
 use Rattle.tests.specs.Choice.{pick, both}
 use Rattle.record.specs.declared.Key.{Key}
 use Rattle.record.specs.declared.Operand.the-variants.{«Disp8_SP»}
-use Rattle.record.specs.Same.{is, Field, nowhere, wide, short, early, fieldOf}
+use Rattle.record.specs.Same.{sameName, Field, nowhere, wide, short, early, fieldOf}
 use Rattle.rows.specs.Row.{Face}
 use Rattle.shortest.specs.Digits.{digits}
 use Rattle.shortest.specs.Search.{dispFor, firstFor, aim, condByte, wideFor}
@@ -34,9 +34,9 @@ pub record Parts : Type 0 where
 abbrev pub parts : Face → ℕ → Key → Parts
 parts f c k = record {
   before = before f;
-  front = pick (is (f .op0) «Disp8_SP») (k .number1) (k .number0);
+  front = pick (sameName (f .op0) «Disp8_SP») (k .number1) (k .number0);
   behind = behind f;
-  back = pick (is (f .op0) «Disp8_SP») (k .number0) (k .number1);
+  back = pick (sameName (f .op0) «Disp8_SP») (k .number0) (k .number1);
   further = further f;
   wide = wideFor (fieldOf (f .op0)) k;
   conditions = c;
@@ -96,15 +96,15 @@ either-way g z {n} {v} {w} (inr e) = ap (g n) e
 module _ (f : Face) (c : ℕ) (k : Key) where
   front-is : (before f ≡ 0) ⊎ (front (behind f) (aim f k) ≡ parts f c k .front)
   unfolding aim
-  front-is = by (behind f) (first-part k (fieldOf (f .op0)) (fieldOf (f .op1)) (is (f .op0) «Disp8_SP») (near (f .op0)) (near (f .op1)) (near-some (f .op0)) (near-some (f .op1)))
+  front-is = by (behind f) (first-part k (fieldOf (f .op0)) (fieldOf (f .op1)) (sameName (f .op0) «Disp8_SP») (near (f .op0)) (near (f .op1)) (near-some (f .op0)) (near-some (f .op1)))
     where
-      by : (m : ℕ) → (before f ≡ 0) ⊎ (in-front k m (fieldOf (f .op0)) (fieldOf (f .op1)) (is (f .op0) «Disp8_SP») ≡ parts f c k .front) → (before f ≡ 0) ⊎ (front m (aim f k) ≡ parts f c k .front)
+      by : (m : ℕ) → (before f ≡ 0) ⊎ (in-front k m (fieldOf (f .op0)) (fieldOf (f .op1)) (sameName (f .op0) «Disp8_SP») ≡ parts f c k .front) → (before f ≡ 0) ⊎ (front m (aim f k) ≡ parts f c k .front)
       by zero x = x
       by (suc m) x = x
 
   back-is : (behind f ≡ 0) ⊎ (aim f k .dispabs ≡ parts f c k .back)
   unfolding aim
-  back-is = second-part k (fieldOf (f .op0)) (fieldOf (f .op1)) (is (f .op0) «Disp8_SP») (near (f .op1)) (sp-short (f .op0)) (near-some (f .op1))
+  back-is = second-part k (fieldOf (f .op0)) (fieldOf (f .op1)) (sameName (f .op0) «Disp8_SP») (near (f .op1)) (sp-short (f .op0)) (near-some (f .op1))
 
   pub laid-as : numbers f c (aim f k) ≡ laid (parts f c k)
   unfolding numbers aim

@@ -10,7 +10,7 @@ use Rattle.record.specs.declared.Operand.{Operand}
 use Rattle.record.specs.declared.Operand.the-variants.{Imm4, Imm8}
 use Rattle.record.specs.declared.Width.{Width}
 use Rattle.record.specs.Numbers.{widthNo, operandNo}
-use Rattle.record.specs.Same.{is, among, baseOf}
+use Rattle.record.specs.Same.{sameName, among, baseOf}
 use Rattle.record.proofs.Apart.{operands, operands-apart}
 use Rattle.record.proofs.Arms.{every-operand, bit, bits-apart}
 use Rattle.shortest.specs.Choose.{narrow}
@@ -26,7 +26,7 @@ sameBase : Bool → Bool → Operand → Bool
 sameBase z s o = eqb (operandNo (baseOf (narrow (baseOf o) z s))) (operandNo (baseOf o))
 
 always-base : Always sameBase
-unfolding sameBase baseOf is among
+unfolding sameBase baseOf sameName among
 always-base true true = tt
 always-base true false = tt
 always-base false true = tt
@@ -38,13 +38,13 @@ base-kept z s o = operands-apart _ _ (eqb-true _ _ (so _ (every-operand (sameBas
 
 -- Imm4 and Imm8 have no other name
 abbrev inCode : Operand → Bool
-inCode o = either (is o Imm4) (is o Imm8)
+inCode o = either (sameName o Imm4) (sameName o Imm8)
 
 sameInCode : Bool → Bool → Operand → Bool
 sameInCode z s o = eqb (bit (inCode (narrow o z s))) (bit (inCode o))
 
 always-in-code : Always sameInCode
-unfolding sameInCode is
+unfolding sameInCode sameName
 always-in-code true true = tt
 always-in-code true false = tt
 always-in-code false true = tt
@@ -55,7 +55,7 @@ unfolding sameInCode
 in-code z s o = bits-apart _ _ (eqb-true _ _ (so _ (every-operand (sameInCode z s) (always-in-code z s) o)))
 
 in-code-base : (o : Operand) → inCode (baseOf o) ≡ inCode o
-unfolding baseOf is among
+unfolding baseOf sameName among
 in-code-base o = bits-apart _ _ (eqb-true _ _ (so _ (every-operand (λ o. eqb (bit (inCode (baseOf o))) (bit (inCode o))) tt o)))
 
 pub whole-kept : (w : Width) (z s : Bool) (o : Operand) → whole w (narrow o z s) ≡ whole w o

@@ -14,7 +14,7 @@ use Rattle.tests.proofs.Choice.{both-left, both-right}
 use Rattle.record.specs.declared.Key.{Key}
 use Rattle.record.specs.declared.Operand.{Operand}
 use Rattle.record.specs.declared.Operand.the-variants.{Imm4, Imm8, «Disp8_SP»}
-use Rattle.record.specs.Same.{is, among, Field, nowhere, wide, short, early, fieldOf, baseOf}
+use Rattle.record.specs.Same.{sameName, among, Field, nowhere, wide, short, early, fieldOf, baseOf}
 use Rattle.record.proofs.Arms.{every-operand}
 use Rattle.rows.specs.All.{everyCode}
 use Rattle.rows.specs.Row.{Face}
@@ -47,10 +47,10 @@ wideSource short = oneth
 wideSource early = oneth
 
 abbrev frontSource : Face → Source
-frontSource f = pick (is (f .op0) «Disp8_SP») oneth zeroth
+frontSource f = pick (sameName (f .op0) «Disp8_SP») oneth zeroth
 
 abbrev backSource : Face → Source
-backSource f = pick (is (f .op0) «Disp8_SP») zeroth oneth
+backSource f = pick (sameName (f .op0) «Disp8_SP») zeroth oneth
 
 -- the numbers as a row reads them, and as they are written
 abbrev readTags : Face → ℕ → List Tag
@@ -80,7 +80,7 @@ module _ (k : Key) where
   read-out : (f : Face) (c : ℕ) → laid (parts f c k) ≡ spellOut (readTags f c) k
   unfolding spellOut
   read-out f c =
-      let s = is (f .op0) «Disp8_SP» in
+      let s = sameName (f .op0) «Disp8_SP» in
       λ j. digits (before f) (turned-value s j) ++ (digits (behind f) (back-value s j) ++ (digits (further f) (wide-value (fieldOf (f .op0)) j) ++ sym (append-nil (digits c (condByte (k .opcode)))) j))
 
   written-out : (f : Face) (c : ℕ) → slots.slots f c k ≡ spellOut (writtenTags f (turns (f .op0)) (eqb c 0)) k
@@ -103,7 +103,7 @@ inOrder a b =
     pick (live w) (same (some (readTags (w .face) (conds (w .reads)))) (some (writtenTags (w .face) (turns (w .face .op0)) (eqb (conds (w .reads)) 0)))) true
 
 all-in-order : T (everyCode inOrder)
-unfolding everyCode inOrder rowsOf same some turns near far is among conds fieldOf baseOf whole
+unfolding everyCode inOrder rowsOf same some turns near far sameName among conds fieldOf baseOf whole
 all-in-order = tt
 
 pub ordered : (a b : ℕ) → known a ≡ true → b < 256 → live (document01 .rowAt a b) ≡ true → (k : Key)
@@ -166,7 +166,7 @@ module _ (k : Key) where
       → meant c (k .opcode) ≡ true → sayable f own c k ≡ hold (limitTags f) k
   unfolding sayable
   held f own c h0 h1 m =
-      let s = is (f .op0) «Disp8_SP» in
+      let s = sameName (f .op0) «Disp8_SP» in
       let e0 = exactTags (fieldOf (f .op0)) zeroth in
       let e1 = exactTags (fieldOf (f .op1)) oneth in
       let t0 = fitTags (before f) (frontSource f) in
@@ -203,7 +203,7 @@ limited a b =
     pick (live w) (both (oneEach (wholeRow (w .face)) (w .face)) (isRead (wholeRow (w .face)) (w .face))) true
 
 all-limited : T (everyCode limited)
-unfolding everyCode limited rowsOf same limitOf near far is among conds fieldOf baseOf whole
+unfolding everyCode limited rowsOf same limitOf near far sameName among conds fieldOf baseOf whole
 all-limited = tt
 
 record Limited (f : Face) : Type 0 where
@@ -279,7 +279,7 @@ said-if-small a b e l v k m h = by (wholeRow f) refl (limited-at a b e l v .each
     by false q one read = not-part k f _ _ m one read
 
 -- a number that is part of a code is below its name's limit
-pub part-small : (o : Operand) (v : ℕ) → either (is o Imm4) (is o Imm8) ≡ true → v < numberLimit o → ltb v (limitOf o) ≡ true
-unfolding limitOf near far is among
+pub part-small : (o : Operand) (v : ℕ) → either (sameName o Imm4) (sameName o Imm8) ≡ true → v < numberLimit o → ltb v (limitOf o) ≡ true
+unfolding limitOf near far sameName among
 part-small o v e h =
-    lt-ltb _ _ (lt-of-lt-of-le h (leb-true _ _ (so _ (picked _ _ (every-operand (λ o. pick (either (is o Imm4) (is o Imm8)) (leb (numberLimit o) (limitOf o)) true) tt o) e))))
+    lt-ltb _ _ (lt-of-lt-of-le h (leb-true _ _ (so _ (picked _ _ (every-operand (λ o. pick (either (sameName o Imm4) (sameName o Imm8)) (leb (numberLimit o) (limitOf o)) true) tt o) e))))

@@ -11,7 +11,7 @@ use Rattle.record.specs.declared.Record.{Record}
 use Rattle.record.specs.declared.Operand.{Operand}
 use Rattle.record.specs.declared.Operand.the-variants.{Nothing}
 use Rattle.record.specs.Numbers.{operandNo}
-use Rattle.record.specs.Same.{is, among, baseOf, key}
+use Rattle.record.specs.Same.{sameName, among, baseOf, key}
 use Rattle.record.proofs.Arms.{every-operand}
 use Rattle.rows.specs.Rows.{known, document01}
 use Rattle.shortest.specs.Says.{bytes, none}
@@ -44,11 +44,11 @@ not-chosen (code a b) k h =
     ap (λ z. pick z (bytes (bytesBy document01 a b k)) none) (sym out)
 
 -- only Nothing has the base Nothing
-nothing-only : (o : Operand) → baseOf Nothing ≡ baseOf o → is o Nothing ≡ true
-unfolding baseOf is among
-nothing-only o e = so _ (picked _ _ (every-operand (λ o. pick (eqb (operandNo (baseOf Nothing)) (operandNo (baseOf o))) (is o Nothing) true) tt o) (eq-eqb _ _ (ap operandNo e)))
+nothing-only : (o : Operand) → baseOf Nothing ≡ baseOf o → sameName o Nothing ≡ true
+unfolding baseOf sameName among
+nothing-only o e = so _ (picked _ _ (every-operand (λ o. pick (eqb (operandNo (baseOf Nothing)) (operandNo (baseOf o))) (sameName o Nothing) true) tt o) (eq-eqb _ _ (ap operandNo e)))
 
-not-able : (r : Record) → is (r .op2) Nothing ≡ false → (x : Choice) → none ≡ taken document01 x (key r)
+not-able : (r : Record) → sameName (r .op2) Nothing ≡ false → (x : Choice) → none ≡ taken document01 x (key r)
 unfolding taken able
 not-able r h nothing = refl
 not-able r h (code a b) = by (able document01 a b (key r)) refl
@@ -59,5 +59,5 @@ not-able r h (code a b) = by (able document01 a b (key r)) refl
         let c = parts (document01 .rowAt a b) (key r) (both-true (there document01 a b) (can (document01 .rowAt a b) (key r)) e .1) in
         absurd (false≢true (sym h ∙ nothing-only (r .op2) (c .base2)))
 
-pub third : (r : Record) → is (r .op2) Nothing ≡ false → none ≡ encoded r
+pub third : (r : Record) → sameName (r .op2) Nothing ≡ false → none ≡ encoded r
 third r h = not-able r h (choose (key r))

@@ -8,7 +8,7 @@ use lib.Dec.{eqb}
 use Rattle.tests.specs.Choice.{pick}
 use Rattle.record.specs.declared.Record.{Record}
 use Rattle.record.specs.declared.Operand.the-variants.{«Disp8_SP»}
-use Rattle.record.specs.Same.{is, Field, nowhere, wide, short, early, fieldOf, shared, field0, field1, valueOf}
+use Rattle.record.specs.Same.{sameName, Field, nowhere, wide, short, early, fieldOf, shared, field0, field1, valueOf}
 use Rattle.shortest.specs.Can.{exact}
 use Rattle.choose.specs.Coded.{isWide}
 use Rattle.encode.specs.Value.{valued, isShort}
@@ -41,11 +41,11 @@ module _ (r : Record) where
   by-field1 short short true h t = refl
   by-field1 short short false h t = refl
 
-  pub value0 : valued (fieldOf (r .op0)) (r .«imm_wide») (pick (is (r .op0) «Disp8_SP») (r .dispabs) (pick (isShort (fieldOf (r .op1))) (r .first) (r .dispabs))) ≡ valueOf (field0 (r .op0) (r .op1)) r
-  value0 = by-field0 (fieldOf (r .op0)) (fieldOf (r .op1)) (is (r .op0) «Disp8_SP») (never-early (r .op0))
+  pub value0 : valued (fieldOf (r .op0)) (r .«imm_wide») (pick (sameName (r .op0) «Disp8_SP») (r .dispabs) (pick (isShort (fieldOf (r .op1))) (r .first) (r .dispabs))) ≡ valueOf (field0 (r .op0) (r .op1)) r
+  value0 = by-field0 (fieldOf (r .op0)) (fieldOf (r .op1)) (sameName (r .op0) «Disp8_SP») (never-early (r .op0))
 
-  pub value1 : valued (fieldOf (r .op1)) (r .«imm_wide») (pick (is (r .op0) «Disp8_SP») (r .first) (r .dispabs)) ≡ valueOf (field1 (r .op0) (r .op1)) r
-  value1 = by-field1 (fieldOf (r .op1)) (fieldOf (r .op0)) (is (r .op0) «Disp8_SP») (never-early (r .op1)) (sp-short (r .op0))
+  pub value1 : valued (fieldOf (r .op1)) (r .«imm_wide») (pick (sameName (r .op0) «Disp8_SP») (r .first) (r .dispabs)) ≡ valueOf (field1 (r .op0) (r .op1)) r
+  value1 = by-field1 (fieldOf (r .op1)) (fieldOf (r .op0)) (sameName (r .op0) «Disp8_SP») (never-early (r .op1)) (sp-short (r .op0))
 
   by-field2 : (f : Field) → isEarly f ≡ false → valued f (r .«imm_wide») (r .dispabs) ≡ valueOf f r
   by-field2 nowhere h = refl

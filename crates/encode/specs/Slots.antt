@@ -8,7 +8,7 @@ use Rattle.tests.specs.Choice.{pick, both, either}
 use Rattle.record.specs.declared.Key.{Key}
 use Rattle.record.specs.declared.Operand.{Operand}
 use Rattle.record.specs.declared.Operand.the-variants.{Imm4, Imm8, Imm16, Abs16, Abs20, Disp8, «Disp8_A0», «Disp8_A1», «Disp8_SB», «Disp8_FB», «Disp8_SP», «Disp16_A0», «Disp16_A1», «Disp16_SB», «Disp20_A0», «Disp20_A1», «Bit_R0», «Bit_R1», «Bit_R2», «Bit_R3», «Bit_A0», «Bit_A1», «Bit_Disp8_A0», «Bit_Disp8_A1», «Bit_Disp8_SB», «Bit_Disp8_FB», «Bit_Disp16_A0», «Bit_Disp16_A1», «Bit_Disp16_SB», «Bit_Abs16»}
-use Rattle.record.specs.Same.{is, among, fieldOf}
+use Rattle.record.specs.Same.{sameName, among, fieldOf}
 use Rattle.rows.specs.Row.{Face}
 use Rattle.rows.specs.Run.{twentyBits}
 use Rattle.shortest.specs.Digits.{digits}
@@ -24,7 +24,7 @@ near a =
 
 -- how many bytes of another number
 unfoldable pub far : Operand → ℕ
-far a = pick (among (Imm8 ∷ Disp8 ∷ []) a) 1 (pick (is a Imm16) 2 (pick (among (Abs20 ∷ «Disp20_A0» ∷ «Disp20_A1» ∷ []) a) 3 0))
+far a = pick (among (Imm8 ∷ Disp8 ∷ []) a) 1 (pick (sameName a Imm16) 2 (pick (among (Abs20 ∷ «Disp20_A0» ∷ «Disp20_A1» ∷ []) a) 3 0))
 
 -- of either kind
 abbrev pub countOf : Operand → ℕ
@@ -39,11 +39,11 @@ limitBy (suc (suc (suc n))) = twentyBits
 
 -- Imm4 is part of a code
 unfoldable pub limitOf : Operand → ℕ
-limitOf o = pick (is o Imm4) 16 (limitBy (countOf o))
+limitOf o = pick (sameName o Imm4) 16 (limitBy (countOf o))
 
 -- an immediate, an address of 20 bits and Disp8_SP are read behind the other operand
 unfoldable pub turns : Operand → Bool
-turns o = either (isWide (fieldOf o)) (is o «Disp8_SP»)
+turns o = either (isWide (fieldOf o)) (sameName o «Disp8_SP»)
 
 -- a number that is part of the code is not read
 abbrev pub count0 : Face → ℕ

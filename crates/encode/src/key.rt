@@ -2,7 +2,7 @@
 ghost use mathlib.Core.Path.{_≡_};
 ghost use Rattle.tests.specs.Choice.{pick};
 ghost use Rattle.record.specs.declared.Operand.the-variants.{«Disp8_SP»};
-ghost use Rattle.record.specs.Same.{is, fieldOf, baseOf, key};
+ghost use Rattle.record.specs.Same.{sameName, fieldOf, baseOf, key};
 ghost use Rattle.encode.specs.Value.{valued, isShort};
 use crate::counts;
 use choose::names;
@@ -33,7 +33,7 @@ fn number_of(o: Operand, wide: u32, short: u16) -> u32
 
 // The displacement of operand 0: of two, Disp8_SP has the later one.
 fn short0(r: Record) -> u16
-    ensures { λ v. ⌜ v ≡ pick (is (r .op0) «Disp8_SP») (r .dispabs) (pick (isShort (fieldOf (r .op1))) (r .first) (r .dispabs)) ⌝ }
+    ensures { λ v. ⌜ v ≡ pick (sameName (r .op0) «Disp8_SP») (r .dispabs) (pick (isShort (fieldOf (r .op1))) (r .first) (r .dispabs)) ⌝ }
 {
     let op0 = r.op0;
     let op1 = r.op1;
@@ -48,7 +48,7 @@ fn short0(r: Record) -> u16
 }
 
 fn short1(r: Record) -> u16
-    ensures { λ v. ⌜ v ≡ pick (is (r .op0) «Disp8_SP») (r .first) (r .dispabs) ⌝ }
+    ensures { λ v. ⌜ v ≡ pick (sameName (r .op0) «Disp8_SP») (r .first) (r .dispabs) ⌝ }
 {
     let op0 = r.op0;
     if names::same(op0, Operand::Disp8_SP) {

@@ -10,7 +10,7 @@ ghost use mathlib.Core.Path.{_≡_};
 ghost use mathlib.Core.Bool.{true};
 ghost use Prim.Native.Nat.{_≤_};
 ghost use Rattle.record.specs.declared.Operand.the-variants.{Nothing};
-ghost use Rattle.record.specs.Same.{is};
+ghost use Rattle.record.specs.Same.{sameName};
 ghost use Rattle.shortest.specs.Choose.{encoded};
 ghost use Rattle.shortest.specs.Says.{none};
 ghost use Rattle.shortest.specs.Written.{written};
@@ -65,7 +65,7 @@ fn no_plan() -> Plan
 
 // How the chosen code says a record: its row has the names that were asked for.
 fn find(r: Record) -> Plan
-    requires { ⌜ is (r .op2) Nothing ≡ true ⌝ }
+    requires { ⌜ sameName (r .op2) Nothing ≡ true ⌝ }
     ensures { λ p. ⌜ (foundBy p ≡ encoded r) × (p .count ≤ 3) × (p .«rest_count» ≤ 3) ⌝ }
 {
     let k = key::key_of(r);

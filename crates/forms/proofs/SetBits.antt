@@ -17,13 +17,13 @@ use Rattle.record.specs.declared.Width.{Width}
 use Rattle.record.specs.declared.Width.the-variants.{None, B, W}
 use Rattle.record.specs.declared.Operand.{Operand}
 use Rattle.record.specs.Numbers.{sizeNo, operandNo}
-use Rattle.record.specs.Same.{is, among}
+use Rattle.record.specs.Same.{sameName, among}
 use Rattle.record.proofs.Opcode.{the-type}
 use Rattle.record.proofs.Apart.{opcodes, operands}
 use Rattle.record.proofs.Arms.{has, bit, bits-apart, every-opcode, every-operand, of-opcodes}
 use Rattle.shortest.specs.Forms.{formOf, names, sizeFor}
 use Rattle.shortest.proofs.Bools.{so}
-use Rattle.forms.specs.NameSet.{set, first, second}
+use Rattle.forms.specs.NameSet.{bitSet, first, second}
 
 module _ (f : Opcode → ℕ) where
   pub of-opcode : (p : Opcode) (v : ℕ) → T (eqb v (f p)) → {o : Opcode} → o ≡ p → v ≡ f o
@@ -44,13 +44,13 @@ from-names f xs t o x =
     bits-apart _ _ (eqb-true _ _ (so _ (every-operand (λ x. eqb (bit (bitOf (f o) (operandNo x))) (bit (among (xs o) x))) (every-opcode (λ o. every (λ j x. eqb (bit (bitOf (f o) (operandNo x))) (bit (among (xs o) x))) 0 operands) t o) x)))
 
 first-names : (w : Width) → Names (λ o. first (formOf o) w) (λ o. names (formOf o) w .first)
-unfolding set formOf among is
+unfolding bitSet formOf among sameName
 first-names B = tt
 first-names W = tt
 first-names None = tt
 
 second-names : (w : Width) → Names (λ o. second (formOf o) w) (λ o. names (formOf o) w .second)
-unfolding set formOf among is
+unfolding bitSet formOf among sameName
 second-names B = tt
 second-names W = tt
 second-names None = tt
@@ -59,7 +59,7 @@ sizeAgrees : Width → Size → Opcode → Bool
 sizeAgrees w s o = eqb (bit (bitOf (first (formOf o) w) (57 + sizeNo s))) (bit (eqb (sizeNo s) (sizeNo (sizeFor (formOf o) w))))
 
 sizes : (w : Width) (s : Size) → T (every (λ i o. sizeAgrees w s o) 0 opcodes)
-unfolding sizeAgrees set formOf
+unfolding sizeAgrees bitSet formOf
 sizes B size.None = tt
 sizes B size.B = tt
 sizes B size.W = tt

@@ -6,13 +6,13 @@ use Rattle.record.specs.declared.Width.{Width}
 use Rattle.record.specs.Numbers.{sizeNo, operandNo}
 use Rattle.shortest.specs.Forms.{Form, names, sizeFor}
 
-unfoldable pub set : List Operand → ℕ
-set [] = 0
-set (x ∷ xs) = 2 ^ operandNo x + set xs
+unfoldable pub bitSet : List Operand → ℕ
+bitSet [] = 0
+bitSet (x ∷ xs) = 2 ^ operandNo x + bitSet xs
 
 -- names of operand 0, and behind their 57 bits the size
 abbrev pub first : Form → Width → ℕ
-first f w = 2 ^ (57 + sizeNo (sizeFor f w)) + set (names f w .first)
+first f w = 2 ^ (57 + sizeNo (sizeFor f w)) + bitSet (names f w .first)
 
 abbrev pub second : Form → Width → ℕ
-second f w = set (names f w .second)
+second f w = bitSet (names f w .second)

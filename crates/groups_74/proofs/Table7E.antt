@@ -14,7 +14,7 @@ use Rattle.record.specs.declared.Operand.{Operand}
 use Rattle.rows.specs.declared.Seen.{Seen}
 use Rattle.record.specs.declared.Opcode.{Opcode}
 use Rattle.record.specs.declared.Opcode.the-variants.{NOP, BTSTC, BTSTS, BNTST, BAND, BNAND, BOR, BNOR, BCLR, BSET, BNOT, BTST, BXOR, BNXOR, BMGEU, BMGTU, BMEQ, BMN, BMLE, BMO, BMGE, BMLTU, BMLEU, BMNE, BMPZ, BMGT, BMNO, BMLT}
-use Rattle.rows.specs.Row.{InvalidOpcode, cond, is, isnt, Row}
+use Rattle.rows.specs.Row.{InvalidOpcode, cond, named, unnamed, Row}
 use Rattle.rows.specs.Codes.{condOf}
 use Rattle.rows.specs.Rows.{row, refused, bits, row7E}
 use Rattle.rows.specs.Run.{run}
@@ -38,24 +38,24 @@ named bs s o h e = h ∙ ap (λ y. run (cond ∷ []) bs (bitFace o y) s) e
 abbrev pub conditionT : ℕ → Opcode
 conditionT c = getD (BMGEU ∷ BMGTU ∷ BMEQ ∷ BMN ∷ BMLE ∷ BMO ∷ BMGE ∷ NOP ∷ BMLTU ∷ BMLEU ∷ BMNE ∷ BMPZ ∷ BMGT ∷ BMNO ∷ BMLT ∷ NOP ∷ []) (c % 16) NOP
 
-pub low : (c : ℕ) → c < 0x07 → condOf c ≡ is (conditionT c)
+pub low : (c : ℕ) → c < 0x07 → condOf c ≡ named (conditionT c)
 unfolding condOf
-low = each (λ c. condOf c ≡ is (conditionT c)) 7 (((((((tt, refl), refl), refl), refl), refl), refl), refl)
+low = each (λ c. condOf c ≡ named (conditionT c)) 7 (((((((tt, refl), refl), refl), refl), refl), refl), refl)
 
-from : (k : ℕ) → k < 7 → condOf (0xF8 + k) ≡ is (conditionT (0xF8 + k))
+from : (k : ℕ) → k < 7 → condOf (0xF8 + k) ≡ named (conditionT (0xF8 + k))
 unfolding condOf
-from = each (λ k. condOf (0xF8 + k) ≡ is (conditionT (0xF8 + k))) 7 (((((((tt, refl), refl), refl), refl), refl), refl), refl)
+from = each (λ k. condOf (0xF8 + k) ≡ named (conditionT (0xF8 + k))) 7 (((((((tt, refl), refl), refl), refl), refl), refl), refl)
 
-pub high : (c : ℕ) → 0xF8 ≤ c → c < 0xFF → condOf c ≡ is (conditionT c)
+pub high : (c : ℕ) → 0xF8 ≤ c → c < 0xFF → condOf c ≡ named (conditionT c)
 high c g l =
     let q : 0xF8 + (c - 0xF8) ≡ c = omega arith in
-    subst (λ x. condOf x ≡ is (conditionT x)) q (from (c - 0xF8) (omega arith))
+    subst (λ x. condOf x ≡ named (conditionT x)) q (from (c - 0xF8) (omega arith))
 
-pub between : (c : ℕ) → 0x07 ≤ c → c < 0xF8 → condOf c ≡ isnt
+pub between : (c : ℕ) → 0x07 ≤ c → c < 0xF8 → condOf c ≡ unnamed
 unfolding condOf
 between c g l = rw (le-ltb _ 0x07 g, lt-ltb _ 0xF8 l)
 
-pub last : (c : ℕ) → 0xFF ≤ c → condOf c ≡ isnt
+pub last : (c : ℕ) → 0xFF ≤ c → condOf c ≡ unnamed
 unfolding condOf
 last c g =
     let g′ : 0x07 ≤ c = omega arith in

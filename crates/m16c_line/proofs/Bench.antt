@@ -3,7 +3,7 @@
 use Prim.Native.Nat.{ℕ}
 use mathlib.Core.Path.{_≡_, refl}
 use mathlib.Core.List.{List, [], _∷_}
-use Rattle.record.specs.Same.{is, among, fieldOf}
+use Rattle.record.specs.Same.{sameName, among, fieldOf}
 use Rattle.rows.specs.Rows.{known, rowsOf}
 use Rattle.rows.specs.Codes.{condOf}
 use Rattle.rows.specs.Run.{decodeBy, runRow, run, readDisp, readImm}
@@ -21,5 +21,5 @@ pub document : (out : List ℕ)
     × (lined bytes 7 out ≡ left (spelled "0007 3 W JLE Disp8=05") out)
     × (lined bytes 0xA out ≡ left (spelled "000A 2 - INT Imm8=05") out)
     × (lined bytes 0xC out ≡ untouched 2 out)
-unfolding lined decodeBy runRow run readDisp readImm condOf known rowsOf is among fieldOf digit opcodeNames opcodeName operandNames operandName digitsOf shown fromWidth lineOf
+unfolding lined decodeBy runRow run readDisp readImm condOf known rowsOf sameName among fieldOf digit opcodeNames opcodeName operandNames operandName digitsOf shown fromWidth lineOf
 document out = (refl, refl, refl, refl)

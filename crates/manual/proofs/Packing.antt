@@ -9,7 +9,7 @@ use lib.ListN.{getD}
 use Rattle.record.specs.declared.Opcode.{Opcode}
 use Rattle.record.specs.Numbers.{operandNo}
 use Rattle.manual.specs.Meaning.{Suffix, none, B, W, L, A, plus, minus, Spot, nothing, plain, behind, within, carry, counter, flag, Meaning, Entry, meaning, empty}
-use Rattle.manual.specs.Bits.{Condition, is, isnt}
+use Rattle.manual.specs.Bits.{Condition, named, unnamed}
 use Rattle.manual.specs.Packed.{suffixNo, digits, spotNo, packed, packedCondition}
 use Rattle.record.proofs.Apart.{operandAt, operand-at, opcodes-apart}
 
@@ -159,7 +159,7 @@ injective empty empty f g e = refl
 
 pub injective-condition : (c d : Condition) → packedCondition c ≡ packedCondition d → c ≡ d
 unfolding packedCondition
-injective-condition (is o) (is p) e = ap is (opcodes-apart o p (omega arith))
-injective-condition (is o) isnt e = absurd (omega arith)
-injective-condition isnt (is p) e = absurd (omega arith)
-injective-condition isnt isnt e = refl
+injective-condition (named o) (named p) e = ap named (opcodes-apart o p (omega arith))
+injective-condition (named o) unnamed e = absurd (omega arith)
+injective-condition unnamed (named p) e = absurd (omega arith)
+injective-condition unnamed unnamed e = refl

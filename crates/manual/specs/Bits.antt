@@ -24,19 +24,19 @@ bmcnd n = andByte (bit NOP n)
 
 -- a condition byte names an instruction or is left empty
 pub data Condition : Type 0 where
-  is : Opcode → Condition
-  isnt : Condition
+  named : Opcode → Condition
+  unnamed : Condition
 
 -- the condition byte of BMcnd dest: 00 to 06, and F8 to FE
 unfoldable pub conditionAt : ℕ → Condition
 conditionAt c =
-    pick (ltb c 0xF8) (getD (is BMGEU ∷ is BMGTU ∷ is BMEQ ∷ is BMN ∷ is BMLE ∷ is BMO ∷ is BMGE ∷ []) c isnt)
-    (getD (is BMLTU ∷ is BMLEU ∷ is BMNE ∷ is BMPZ ∷ is BMGT ∷ is BMNO ∷ is BMLT ∷ []) (c - 0xF8) isnt)
+    pick (ltb c 0xF8) (getD (named BMGEU ∷ named BMGTU ∷ named BMEQ ∷ named BMN ∷ named BMLE ∷ named BMO ∷ named BMGE ∷ []) c unnamed)
+    (getD (named BMLTU ∷ named BMLEU ∷ named BMNE ∷ named BMPZ ∷ named BMGT ∷ named BMNO ∷ named BMLT ∷ []) (c - 0xF8) unnamed)
 
 -- BMcnd C: 7D Dn, n the condition; B and F are none
 abbrev pub bmcndCarry : ℕ → Entry
-bmcndCarry n = named (getD (is BMGEU ∷ is BMGTU ∷ is BMEQ ∷ is BMN ∷ is BMLTU ∷ is BMLEU ∷ is BMNE ∷ is BMPZ ∷ is BMLE ∷ is BMO ∷ is BMGE ∷ isnt ∷ is BMGT ∷ is BMNO ∷ is BMLT ∷ []) n isnt)
+bmcndCarry n = entryOf (getD (named BMGEU ∷ named BMGTU ∷ named BMEQ ∷ named BMN ∷ named BMLTU ∷ named BMLEU ∷ named BMNE ∷ named BMPZ ∷ named BMLE ∷ named BMO ∷ named BMGE ∷ unnamed ∷ named BMGT ∷ named BMNO ∷ named BMLT ∷ []) n unnamed)
   where
-    named : Condition → Entry
-    named (is o) = only o none (stands carry)
-    named isnt = empty
+    entryOf : Condition → Entry
+    entryOf (named o) = only o none (stands carry)
+    entryOf unnamed = empty

@@ -3,7 +3,7 @@
 use Prim.Native.Nat.{ℕ, _+_, _*_}
 use Rattle.record.specs.Numbers.{opcodeNo, operandNo}
 use Rattle.manual.specs.Meaning.{Suffix, none, B, W, L, A, plus, minus, Spot, nothing, plain, behind, within, carry, counter, flag, Entry, meaning, empty}
-use Rattle.manual.specs.Bits.{Condition, is, isnt}
+use Rattle.manual.specs.Bits.{Condition, named, unnamed}
 
 unfoldable pub suffixNo : Suffix → ℕ
 suffixNo none = 0
@@ -34,5 +34,5 @@ packed empty = 0
 
 -- a condition byte's instruction, 1 + its number, or 0
 unfoldable pub packedCondition : Condition → ℕ
-packedCondition (is o) = 1 + opcodeNo o
-packedCondition isnt = 0
+packedCondition (named o) = 1 + opcodeNo o
+packedCondition unnamed = 0

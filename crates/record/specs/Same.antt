@@ -11,13 +11,13 @@ use Rattle.record.specs.declared.Operand.the-variants.{Imm4, Imm8, Imm16
 use Rattle.record.specs.Numbers.{operandNo}
 use Rattle.tests.specs.Choice.{pick}
 
-unfoldable pub is : Operand → Operand → Bool
-is a b = eqb (operandNo a) (operandNo b)
+unfoldable pub sameName : Operand → Operand → Bool
+sameName a b = eqb (operandNo a) (operandNo b)
 
 unfoldable pub among : List Operand → Operand → Bool
-unfolding is
+unfolding sameName
 among [] a = false
-among (b ∷ bs) a = pick (is a b) true (among bs a)
+among (b ∷ bs) a = pick (sameName a b) true (among bs a)
 
 -- "base and number": over A0, A1 and SB the name counts without its 8 or 16, and Deref is base and 0
 unfoldable pub baseOf : Operand → Operand
@@ -53,10 +53,10 @@ shared short short false = short
 
 -- "it belongs to operand 0 if that is Disp8_SP, else to operand 1"
 abbrev pub field0 : Operand → Operand → Field
-field0 a b = shared (fieldOf a) (fieldOf b) (pick (is a «Disp8_SP») false true)
+field0 a b = shared (fieldOf a) (fieldOf b) (pick (sameName a «Disp8_SP») false true)
 
 abbrev pub field1 : Operand → Operand → Field
-field1 a b = shared (fieldOf b) (fieldOf a) (is a «Disp8_SP»)
+field1 a b = shared (fieldOf b) (fieldOf a) (sameName a «Disp8_SP»)
 
 abbrev pub valueOf : Field → Record → ℕ
 valueOf nowhere r = 0

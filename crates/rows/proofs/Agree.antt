@@ -15,7 +15,7 @@ use Rattle.manual.specs.Packed.{packed, packedCondition}
 use Rattle.manual.specs.Entries.{entryAt}
 use Rattle.manual.proofs.Packing.{over, injective}
 use Rattle.record.specs.Numbers.{opcodeNo}
-use Rattle.rows.specs.Row.{Condition, is, isnt, Row}
+use Rattle.rows.specs.Row.{Condition, named, unnamed, Row}
 use Rattle.rows.specs.Codes.{condOf}
 use Rattle.rows.specs.Rows.{known, rowsOf, document01}
 use Rattle.rows.specs.Fate.{fate}
@@ -166,8 +166,8 @@ lists = (refl, refl, refl)
 
 -- a condition byte, as the manual's packing numbers it
 pub conditionNo : Condition → ℕ
-conditionNo (is o) = 1 + opcodeNo o
-conditionNo isnt = 0
+conditionNo (named o) = 1 + opcodeNo o
+conditionNo unnamed = 0
 
 conditionRight : ℕ → Bool
 conditionRight c = eqb (conditionNo (condOf c)) (packedCondition (conditionAt c))

@@ -12,7 +12,7 @@ use Rattle.tests.specs.Choice.{pick}
 use Rattle.rows.specs.declared.Seen.{Seen}
 use Rattle.rows.specs.declared.Got.{Got}
 use Rattle.rows.specs.declared.Got.the-variants.{On, Short}
-use Rattle.rows.specs.Row.{Num, disp, imm, imm20, Read, num, cond, stop, Condition, is, isnt, Face, Table}
+use Rattle.rows.specs.Row.{Num, disp, imm, imm20, Read, num, cond, stop, Condition, named, unnamed, Face, Table}
 use Rattle.rows.specs.Codes.{condOf}
 use Rattle.rows.specs.Fate.{bytesOf}
 use Rattle.rows.specs.Run.{bytes, reading, readDisp, readImm, twentyBits, withDisp, withImm, andThen, past, renamed, refusal, run, runRow, begun, decodeBy}
@@ -77,7 +77,7 @@ module _ (k : ℕ) (bs cs : List ℕ) (h : Begins k bs cs) where
     where
       by : (t : Bool) → ltb (s .taken) (length bs) ≡ t → (c : Condition) → condOf (getD bs (s .taken) 0) ≡ c → run (cond ∷ rs) cs f s ≡ run (cond ∷ rs) bs f s
       by false e c d = absurd ((rw e at n) refl)
-      by true e (is o) d =
+      by true e (named o) d =
           let b : s .taken < length bs = ltb-true _ _ e in
           let n′ : run rs bs (renamed o f) (past s) .refusal ≡ 1 → ⊥ = rw (e, d) at n in
           let m′ : run rs bs (renamed o f) (past s) .taken ≤ k = rw (e, d) at m in
@@ -85,7 +85,7 @@ module _ (k : ℕ) (bs cs : List ℕ) (h : Begins k bs cs) where
           let a : s .taken < length cs = omega (arith, h .long) in
           let q : getD cs (s .taken) 0 ≡ getD bs (s .taken) 0 = h .equal (s .taken) (omega arith) in
           rw (e, lt-ltb _ _ a, q, d) (ih (renamed o f) (past s) (omega arith) n′ m′)
-      by true e isnt d =
+      by true e unnamed d =
           let m′ : s .taken + 1 ≤ k = rw (e, d) at m in
           let a : s .taken < length cs = omega (arith, h .long) in
           let q : getD cs (s .taken) 0 ≡ getD bs (s .taken) 0 = h .equal (s .taken) (omega arith) in

@@ -14,7 +14,7 @@ use Rattle.tests.specs.Choice.{pick}
 use Rattle.rows.specs.declared.Seen.{Seen}
 use Rattle.rows.specs.declared.Got.{Got}
 use Rattle.rows.specs.declared.Got.the-variants.{On, Short}
-use Rattle.rows.specs.Row.{Read, num, cond, stop, Condition, is, isnt, Face, Table}
+use Rattle.rows.specs.Row.{Read, num, cond, stop, Condition, named, unnamed, Face, Table}
 use Rattle.rows.specs.Codes.{condOf}
 use Rattle.rows.specs.Fate.{bytesOf, reach}
 use Rattle.rows.specs.Rows.{document01}
@@ -36,8 +36,8 @@ then-reach k m bs s (On t) f w ih = let l = ih t (w .1) in omega arith
 then-reach k m bs s Short f w ih = omega arith
 
 judged-reach : (m : ℕ) (s : Seen) (c : Condition) (f : Opcode → Answer) → ((o : Opcode) → AtMost (s .taken + 1 + m) (f o)) → AtMost (s .taken + (1 + m)) (judged c s f)
-judged-reach m s (is o) f ih = let l = ih o in omega arith
-judged-reach m s isnt f ih = omega arith
+judged-reach m s (named o) f ih = let l = ih o in omega arith
+judged-reach m s unnamed f ih = omega arith
 
 run-reach : (rs : List Read) (bs : List ℕ) (f : Face) (s : Seen) → s .taken ≤ length bs → AtMost (s .taken + reach rs) (run rs bs f s)
 unfolding run

@@ -12,7 +12,7 @@ use Rattle.tests.specs.Choice.{pick}
 use Rattle.rows.specs.declared.Seen.{Seen}
 use Rattle.rows.specs.declared.Got.{Got}
 use Rattle.rows.specs.declared.Got.the-variants.{On, Short}
-use Rattle.rows.specs.Row.{InvalidOpcode, InvalidOperand, Read, num, cond, stop, Condition, is, isnt, Face, Table}
+use Rattle.rows.specs.Row.{InvalidOpcode, InvalidOperand, Read, num, cond, stop, Condition, named, unnamed, Face, Table}
 use Rattle.rows.specs.Codes.{condOf}
 use Rattle.rows.specs.Run.{reading, andThen, judged, past, renamed, refusal, run, runRow, begun, decodeBy}
 
@@ -28,8 +28,8 @@ then-listed bs (On s) k f = f s
 then-listed bs Short k f = omega arith
 
 judged-listed : (c : Condition) (s : Seen) (k : Opcode → Answer) → ((o : Opcode) → Listed (k o)) → Listed (judged c s k)
-judged-listed (is o) s k f = f o
-judged-listed isnt s k f = omega arith
+judged-listed (named o) s k f = f o
+judged-listed unnamed s k f = omega arith
 
 run-listed : (rs : List Read) (bs : List ℕ) (f : Face) (s : Seen) → Listed (run rs bs f s)
 unfolding run

@@ -14,7 +14,7 @@ use Rattle.record.specs.declared.Operand.{Operand}
 use Rattle.rows.specs.declared.Seen.{Seen}
 use Rattle.rows.specs.declared.Got.{Got}
 use Rattle.rows.specs.declared.Got.the-variants.{On, Short}
-use Rattle.rows.specs.Row.{Num, Refusal, refusalNo, Read, num, stop, cond, is, isnt, Face}
+use Rattle.rows.specs.Row.{Num, Refusal, refusalNo, Read, num, stop, cond, named, unnamed, Face}
 use Rattle.rows.specs.Codes.{condOf}
 use Rattle.rows.specs.Run.{reading, andThen, accepted, refusal, renamed, past, run}
 
@@ -48,10 +48,10 @@ module _ (bs : List ℕ) (f : Face) (s : Seen) {x : Answer} (rs : List Read) whe
   unfolding run
   unread h k = rw (le-ltb _ _ h) k
 
-  pub holds : {o : Opcode} → s .taken < length bs → condOf (getD bs (s .taken) 0) ≡ is o → x ≡ run rs bs (renamed o f) (past s) → x ≡ run (cond ∷ rs) bs f s
+  pub holds : {o : Opcode} → s .taken < length bs → condOf (getD bs (s .taken) 0) ≡ named o → x ≡ run rs bs (renamed o f) (past s) → x ≡ run (cond ∷ rs) bs f s
   unfolding run
   holds h e k = rw (lt-ltb _ _ h, e) k
 
-  pub fails : s .taken < length bs → condOf (getD bs (s .taken) 0) ≡ isnt → x ≡ refusal 2 (s .taken + 1) → x ≡ run (cond ∷ rs) bs f s
+  pub fails : s .taken < length bs → condOf (getD bs (s .taken) 0) ≡ unnamed → x ≡ refusal 2 (s .taken + 1) → x ≡ run (cond ∷ rs) bs f s
   unfolding run
   fails h e k = rw (lt-ltb _ _ h, e) k

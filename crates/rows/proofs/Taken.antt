@@ -14,7 +14,7 @@ use Rattle.tests.specs.Choice.{pick}
 use Rattle.rows.specs.declared.Seen.{Seen}
 use Rattle.rows.specs.declared.Got.{Got}
 use Rattle.rows.specs.declared.Got.the-variants.{On, Short}
-use Rattle.rows.specs.Row.{Num, disp, imm, imm20, InvalidOpcode, InvalidOperand, Read, num, cond, stop, Condition, is, isnt, Face, Row, Table}
+use Rattle.rows.specs.Row.{Num, disp, imm, imm20, InvalidOpcode, InvalidOperand, Read, num, cond, stop, Condition, named, unnamed, Face, Row, Table}
 use Rattle.rows.specs.Codes.{condOf}
 use Rattle.rows.specs.Fate.{bytesOf}
 use Rattle.rows.specs.Run.{reading, readDisp, readImm, andThen, judged, past, renamed, refusal, run, runRow, begun, decodeBy}
@@ -60,8 +60,8 @@ then-counted n bs s (On t) k h w f = wider _ (t .taken) _ _ (omega arith) (f t (
 then-counted n bs s Short k h w f = refused-counted _ _ 1 _ (omega arith) (λ e. refl) h (omega arith)
 
 judged-counted : (b : ℕ) (s : Seen) (c : Condition) (k : Opcode → Answer) → s .taken < b → ((o : Opcode) → Counted (s .taken + 1) b (k o)) → Counted (s .taken) b (judged c s k)
-judged-counted b s (is o) k h f = wider _ (s .taken + 1) _ _ (omega arith) (f o)
-judged-counted b s isnt k h f = refused-counted _ _ 2 _ (omega arith) (λ e. absurd (omega arith)) (omega arith) (omega arith)
+judged-counted b s (named o) k h f = wider _ (s .taken + 1) _ _ (omega arith) (f o)
+judged-counted b s unnamed k h f = refused-counted _ _ 2 _ (omega arith) (λ e. absurd (omega arith)) (omega arith) (omega arith)
 
 pub run-counted : (rs : List Read) (bs : List ℕ) (f : Face) (s : Seen) → s .taken ≤ length bs → Counted (s .taken) (length bs) (run rs bs f s)
 unfolding run

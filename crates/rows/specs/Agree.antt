@@ -13,7 +13,7 @@ use Rattle.record.specs.declared.Operand.{Operand}
 use Rattle.record.specs.declared.Operand.the-variants.{Nothing, Imm4}
 use Rattle.tests.specs.Choice.{pick, both, either}
 use Rattle.record.specs.Numbers.{opcodeNo, widthNo}
-use Rattle.record.specs.Same.{is, Field, nowhere, wide, short, early, fieldOf, field0, field1}
+use Rattle.record.specs.Same.{sameName, Field, nowhere, wide, short, early, fieldOf, field0, field1}
 use Rattle.manual.specs.Meaning.{Suffix, none, B, W, L, A, Number, plus, minus, Spot, nothing, plain, behind, within, carry, counter, flag, Meaning}
 use Rattle.manual.specs.Packed.{suffixNo}
 use Rattle.rows.specs.Row.{disp, imm, imm20, Read, num, cond, stop, Row}
@@ -51,15 +51,15 @@ spansOf r = follow (r .reads) (spans (span 0 0) (span 0 0) (span 0 0) 2)
 
 -- Imm4 keeps the raw code: 0 to 7 are 1 to 8, 8 to F are -1 to -8
 abbrev pub inCode : Operand → ℕ → Number
-inCode a v = pick (is a Imm4) (pick (ltb v 8) (plus (v + 1)) (minus (v - 7))) (plus v)
+inCode a v = pick (sameName a Imm4) (pick (ltb v 8) (plus (v + 1)) (minus (v - 7))) (plus v)
 
 -- an operand whose number a field holds; imm_wide may hold a number of the code
 abbrev pub spotIn : Operand → Span → Spot
 spotIn a s = behind a (s .from) (s .count)
 
 unfoldable pub spot : Operand → Field → Row → Spot
-unfolding is spansOf
-spot a nowhere r = pick (is a Nothing) nothing (plain a)
+unfolding sameName spansOf
+spot a nowhere r = pick (sameName a Nothing) nothing (plain a)
 spot a wide r = pick (eqb (spansOf r .wide .count) 0) (within a (inCode a (r .number))) (spotIn a (spansOf r .wide))
 spot a short r = spotIn a (spansOf r .short)
 spot a early r = spotIn a (spansOf r .early)

@@ -10,7 +10,7 @@ use Rattle.record.specs.declared.Width.the-variants.{None, B, W}
 use Rattle.record.specs.declared.Operand.{Operand}
 use Rattle.record.specs.declared.Operand.the-variants.{Nothing, Imm8, Imm16, R0L, R0H, R1L, R1H, R0, R1, R2, R3, R2R0, R3R1, A0, A1, A1A0, «Deref_A0», «Deref_A1», «Disp8_A0», «Disp8_A1», «Disp8_SB», «Disp8_FB», «Disp16_A0», «Disp16_A1», «Disp16_SB», «Disp20_A0», «Disp20_A1», Abs16, «Bit_R0», «Bit_R1», «Bit_R2», «Bit_R3», «Bit_A0», «Bit_A1», «Bit_Deref_A0», «Bit_Deref_A1», «Bit_Disp8_A0», «Bit_Disp8_A1», «Bit_Disp8_SB», «Bit_Disp8_FB», «Bit_Disp16_A0», «Bit_Disp16_A1», «Bit_Disp16_SB», «Bit_Abs16», INTBL, INTBH, FLG, ISP, SP, SB, FB}
 use Rattle.tests.specs.Choice.{pick}
-use Rattle.rows.specs.Row.{Num, disp, imm, imm20, InvalidOperand, Read, num, stop, Condition, is, isnt}
+use Rattle.rows.specs.Row.{Num, disp, imm, imm20, InvalidOperand, Read, num, stop, Condition, named, unnamed}
 
 -- General, G(c): registers by the width at codes 0 to 3, then one list
 abbrev pub byteNames : List Operand
@@ -54,12 +54,12 @@ sizeI B = 1
 sizeI W = 2
 sizeI None = 0
 
--- what each of them reads
+-- what each of them reads (Bit is T(c): T is the library's name for a test that holds)
 abbrev pub G : ℕ → Read
 G c = num (disp (sizeG c))
 
-abbrev pub T : ℕ → Read
-T c = num (disp (sizeT c))
+abbrev pub Bit : ℕ → Read
+Bit c = num (disp (sizeT c))
 
 abbrev pub I : Width → Read
 I w = num (imm (sizeI w))
@@ -87,5 +87,5 @@ K c rs = refuse (eqb c 0) rs
 -- the condition byte of 7E 2x: 00 to 06 and F8 to FE
 unfoldable pub condOf : ℕ → Condition
 condOf c =
-    pick (ltb c 0x07) (is (getD (BMGEU ∷ BMGTU ∷ BMEQ ∷ BMN ∷ BMLE ∷ BMO ∷ BMGE ∷ []) c NOP))
-    (pick (ltb c 0xF8) isnt (pick (ltb c 0xFF) (is (getD (BMLTU ∷ BMLEU ∷ BMNE ∷ BMPZ ∷ BMGT ∷ BMNO ∷ BMLT ∷ []) (c - 0xF8) NOP)) isnt))
+    pick (ltb c 0x07) (named (getD (BMGEU ∷ BMGTU ∷ BMEQ ∷ BMN ∷ BMLE ∷ BMO ∷ BMGE ∷ []) c NOP))
+    (pick (ltb c 0xF8) unnamed (pick (ltb c 0xFF) (named (getD (BMLTU ∷ BMLEU ∷ BMNE ∷ BMPZ ∷ BMGT ∷ BMNO ∷ BMLT ∷ []) (c - 0xF8) NOP)) unnamed))

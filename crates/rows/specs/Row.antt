@@ -26,8 +26,8 @@ pub data Read : Type 0 where
   stop : Refusal → Read
 
 pub data Condition : Type 0 where
-  is : Opcode → Condition
-  isnt : Condition
+  named : Opcode → Condition
+  unnamed : Condition
 
 -- what the record gets from the row alone (no row has a third operand)
 pub record Face : Type 0 where

@@ -14,7 +14,7 @@ use Rattle.record.specs.declared.Operand.{Operand}
 use Rattle.record.specs.declared.Operand.the-variants.{Nothing, Imm4, Imm8, Imm16, R0L, R0H, R1H, R0, R1, R2R0, R3R1, A1A0, «Disp8_SP», «Disp20_A0», «Deref_A1A0», Abs16, Abs20, Disp8, SP}
 use Rattle.tests.specs.Choice.{pick}
 use Rattle.rows.specs.Row.{disp, imm, Refusal, InvalidOpcode, InvalidOperand, Read, num, cond, stop, Row, Table}
-use Rattle.rows.specs.Codes.{noPair, numJ, nameG, nameT, nameJ, nameK, nameI, G, T, I, L, J, K, refuse}
+use Rattle.rows.specs.Codes.{noPair, numJ, nameG, nameT, nameJ, nameK, nameI, G, Bit, I, L, J, K, refuse}
 
 -- the size that a width gives an opcode that carries one
 abbrev pub sizeOf : Width → Size
@@ -313,7 +313,7 @@ row7D h n =
 
 -- 7E: at h=2 the condition names the opcode
 abbrev pub bits : Opcode → ℕ → List Read → Row
-bits o n rs = bare o None (nameT n) Nothing (T n ∷ rs)
+bits o n rs = bare o None (nameT n) Nothing (Bit n ∷ rs)
 
 unfoldable pub row7E : ℕ → ℕ → Row
 row7E h n =

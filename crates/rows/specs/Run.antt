@@ -15,7 +15,7 @@ use Rattle.record.specs.Blank.{blank}
 use Rattle.rows.specs.declared.Seen.{Seen}
 use Rattle.rows.specs.declared.Got.{Got}
 use Rattle.rows.specs.declared.Got.the-variants.{On, Short}
-use Rattle.rows.specs.Row.{Num, disp, imm, imm20, refusalNo, Read, num, cond, stop, Condition, is, isnt, Face, Row, Table}
+use Rattle.rows.specs.Row.{Num, disp, imm, imm20, refusalNo, Read, num, cond, stop, Condition, named, unnamed, Face, Row, Table}
 use Rattle.rows.specs.Codes.{condOf}
 use Rattle.rows.specs.Rows.{document01}
 
@@ -84,8 +84,8 @@ abbrev pub renamed : Opcode → Face → Face
 renamed o f = record { opcode = o; size = f .size; width = f .width; op0 = f .op0; op1 = f .op1; marked = f .marked }
 
 abbrev pub judged : Condition → Seen → (Opcode → Answer) → Answer
-judged (is o) s k = k o
-judged isnt s k = refusal 2 (s .taken + 1)
+judged (named o) s k = k o
+judged unnamed s k = refusal 2 (s .taken + 1)
 
 -- the reads of a row, one after the other; the earliest event answers
 unfoldable pub run : List Read → List ℕ → Face → Seen → Answer

@@ -8,7 +8,7 @@ use native.Mathlib.Omega.{arith}
 use Rattle.record.specs.declared.Record.{Record}
 use Rattle.record.specs.declared.Operand.the-variants.{«Disp8_SP»}
 use Rattle.record.specs.declared.Key.{Key}
-use Rattle.record.specs.Same.{is, Field, nowhere, wide, short, early, fieldOf, shared, field0, field1, valueOf, key}
+use Rattle.record.specs.Same.{sameName, Field, nowhere, wide, short, early, fieldOf, shared, field0, field1, valueOf, key}
 use Rattle.rows.specs.Row.{disp, imm, imm20, Read, num, cond, stop, Face}
 use Rattle.shortest.specs.Digits.{digits}
 use Rattle.shortest.specs.Search.{condByte, disps, imms, nth, spell, aim, other, shorts, wides, shortsOf, widesOf, wideFor, dispFor, firstFor}
@@ -98,9 +98,9 @@ module _ (f : Face) (t : Record) (k : Key) (op0 : t .op0 ≡ f .op0) (op1 : t .o
   unfolding aim
   fields g rs look d i o =
       look (aim f k) (ap (λ x. x .opcode) same)
-      (λ h. wide-is t k (fieldOf (f .op0)) (fieldOf (f .op1)) (is (f .op0) «Disp8_SP») o zeroth oneth (omega arith))
-      (λ h. disp-is t k (fieldOf (f .op0)) (fieldOf (f .op1)) (is (f .op0) «Disp8_SP») zeroth oneth (omega arith))
-      (λ h. first-is t k (fieldOf (f .op0)) (fieldOf (f .op1)) (is (f .op0) «Disp8_SP») zeroth oneth (omega arith))
+      (λ h. wide-is t k (fieldOf (f .op0)) (fieldOf (f .op1)) (sameName (f .op0) «Disp8_SP») o zeroth oneth (omega arith))
+      (λ h. disp-is t k (fieldOf (f .op0)) (fieldOf (f .op1)) (sameName (f .op0) «Disp8_SP») zeroth oneth (omega arith))
+      (λ h. first-is t k (fieldOf (f .op0)) (fieldOf (f .op1)) (sameName (f .op0) «Disp8_SP») zeroth oneth (omega arith))
 
   pub aimed : (rs : List Read) → disps rs ≤ shortsOf f → imms rs ≤ widesOf f → widesOf f ≤ 1 → spell rs t ≡ spell rs (aim f k)
   aimed rs d i o = fields (spell rs) rs (spell-same rs t) d i o

@@ -1,7 +1,7 @@
 -- The bench lines hold of the definitions.
 -- Assumes nothing.
 use mathlib.Core.Path.{refl}
-use Rattle.record.specs.Same.{is, among, fieldOf, baseOf}
+use Rattle.record.specs.Same.{sameName, among, fieldOf, baseOf}
 use Rattle.rows.specs.Codes.{condOf}
 use Rattle.rows.specs.Rows.{known, rowsOf}
 use Rattle.rows.specs.Run.{decodeBy, runRow, run, readDisp, readImm}
@@ -14,5 +14,5 @@ use Rattle.shortest.specs.Choose.{chooseNamed, chooseBy, dropsZero, plac
 use Rattle.shortest.specs.Bench.{lines, Hold}
 
 pub bench : Hold lines
-unfolding decodeBy runRow run readDisp readImm condOf known rowsOf taken able can fits bytesBy spell aim chooseNamed dropsZero goesWith formOf among is chooseBy place condByte disps imms conds fieldOf baseOf whole
+unfolding decodeBy runRow run readDisp readImm condOf known rowsOf taken able can fits bytesBy spell aim chooseNamed dropsZero goesWith formOf among sameName chooseBy place condByte disps imms conds fieldOf baseOf whole
 bench = (refl, (refl, (refl, (refl, (refl, tt)))))

@@ -11,7 +11,7 @@ use Rattle.record.specs.declared.Opcode.{Opcode}
 use Rattle.record.specs.declared.Operand.the-variants.{Nothing, «Disp8_SP»}
 use Rattle.record.specs.Numbers.{opcodeNo, sizeNo, widthNo, operandNo}
 use Rattle.record.specs.declared.Key.{Key}
-use Rattle.record.specs.Same.{is, Field, nowhere, wide, short, early, fieldOf, shared, field0, field1, valueOf, baseOf, key}
+use Rattle.record.specs.Same.{sameName, Field, nowhere, wide, short, early, fieldOf, shared, field0, field1, valueOf, baseOf, key}
 use Rattle.record.proofs.Apart.{opcodes-apart, sizes-apart, widths-apart, operands-apart}
 use Rattle.rows.specs.Row.{Row}
 use Rattle.rows.specs.Run.{begun}
@@ -154,7 +154,7 @@ can-says w k f h =
     let q = reach (w .reads) a (w .face) s (l .1) (c .fitting) in
     let y = kept (w .reads) (spell (w .reads) a) (w .face) s t q in
     let g = filled (w .reads) a (w .face) s (p .tidy) (l .1) (c .fitting) in
-    let sp = is (w .face .op0) «Disp8_SP» in
+    let sp = sameName (w .face .op0) «Disp8_SP» in
     let z = back0 (imms (w .reads)) (w .number) t k (y .number) (fieldOf (w .face .op0)) (fieldOf (w .face .op1)) sp (p .once) (c .exact0) (g .number)
     (λ h. g .disp (omega (arith, p .disps))) (λ h. g .first (omega (arith, p .disps))) in
     let o = back1 (imms (w .reads)) (w .number) t k (y .number) (fieldOf (w .face .op0)) (fieldOf (w .face .op1)) sp (p .once) (c .exact1) (g .number)

@@ -15,7 +15,7 @@ use Rattle.record.specs.declared.Opcode.{Opcode}
 use Rattle.record.specs.declared.Operand.the-variants.{Nothing, «Disp8_SP»}
 use Rattle.record.specs.Numbers.{sizeNo, widthNo, operandNo}
 use Rattle.record.specs.declared.Key.{Key}
-use Rattle.record.specs.Same.{is, Field, nowhere, wide, short, early, fieldOf, baseOf}
+use Rattle.record.specs.Same.{sameName, Field, nowhere, wide, short, early, fieldOf, baseOf}
 use Rattle.record.proofs.Apart.{opcodes-apart}
 use Rattle.rows.specs.Row.{disp, imm, imm20, Read, num, cond, stop, Row, Table}
 use Rattle.rows.specs.Codes.{condOf}
@@ -177,8 +177,8 @@ can-coarse w k h e =
     (record {
       opcode = refl;
       number = wide-like k (fieldOf (w .face .op0));
-      disp = disp-like k (fieldOf (w .face .op0)) (fieldOf (w .face .op1)) (is (w .face .op0) «Disp8_SP»);
-      first = first-like k (is (w .face .op0) «Disp8_SP»);
+      disp = disp-like k (fieldOf (w .face .op0)) (fieldOf (w .face .op1)) (sameName (w .face .op0) «Disp8_SP»);
+      first = first-like k (sameName (w .face .op0) «Disp8_SP»);
     }) in
     λ i.
     both (live w)
@@ -233,7 +233,7 @@ record Fits (w : Row) (k : Key) : Type 0 where
   condition : 1 ≤ conds (w .reads) → means (condOf (condByte (k .opcode))) (k .opcode) ≡ true
   class0 : classOf (k .number0) < span (fieldOf (w .face .op0))
   class1 : classOf (k .number1) < span (fieldOf (w .face .op1))
-  is : coarse k ≡ keyAt w (k .opcode) (classOf (k .number0)) (classOf (k .number1))
+  coarsened : coarse k ≡ keyAt w (k .opcode) (classOf (k .number0)) (classOf (k .number1))
 
 can-is : (w : Row) (k : Key) → Regular w → Parts w k → Fits w k
 unfolding aim
@@ -247,7 +247,7 @@ can-is w k g c =
       condition = λ l. cond-in (w .reads) (aim (w .face) k) l (live-is w (c .lives) .1) (c .fitting);
       class0 = class-span (fieldOf (w .face .op0)) _ _ _ (c .exact0);
       class1 = class-span (fieldOf (w .face .op1)) _ _ _ (c .exact1);
-      is = λ i. record {
+      coarsened = λ i. record {
         opcode = k .opcode;
         size = sym (c .size) i;
         width = sym (c .width) i;
@@ -299,7 +299,7 @@ module _ (t : Table) (choose : Key → Choice)
       let o = opcodes-at (conds (w .reads)) (w .face .opcode) (k .opcode) _ l (c .opcode) (f .condition) in
       let i = upto-at (λ i. upto (λ j. good t choose w a b (keyAt w (k .opcode) i j)) (span (fieldOf (w .face .op1)))) (span (fieldOf (w .face .op0))) (true-t o) (classOf (k .number0)) (f .class0) in
       let j = upto-at (λ j. good t choose w a b (keyAt w (k .opcode) (classOf (k .number0)) j)) (span (fieldOf (w .face .op1))) i (classOf (k .number1)) (f .class1) in
-      let u : good t choose w a b (coarse k) ≡ true = subst (λ x. good t choose w a b x ≡ true) (sym (f .is)) (so _ j) in
+      let u : good t choose w a b (coarse k) ≡ true = subst (λ x. good t choose w a b x ≡ true) (sym (f .coarsened)) (so _ j) in
       let able-to : can w (coarse k) ≡ true = can-coarse w k g (whole-is w k c) ∙ p .1 in
       let v : beatsb t choose (choose (coarse k)) w a b (coarse k) ≡ true = subst (λ x. ifb t choose x w a b (coarse k) ≡ true) able-to u in
       beaten (choose k) a b k (subst (λ c. beatsb t choose c w a b (coarse k) ≡ true) (steady k) v)

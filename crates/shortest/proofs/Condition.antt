@@ -13,21 +13,21 @@ use Rattle.tests.proofs.Range.{upto-at}
 use Rattle.record.specs.declared.Opcode.{Opcode}
 use Rattle.record.specs.Numbers.{opcodeNo}
 use Rattle.record.proofs.Apart.{opcodes-apart}
-use Rattle.rows.specs.Row.{Condition, is, isnt}
+use Rattle.rows.specs.Row.{Condition, named, unnamed}
 use Rattle.rows.specs.Codes.{condOf}
 use Rattle.shortest.specs.Says.{Bytes}
 use Rattle.shortest.proofs.Bools.{so}
 use Rattle.shortest.specs.Search.{means, seek, condBytes, condByte}
 
 abbrev backs : Condition → ℕ → Bool
-backs (is o) v = eqb (condByte o) v
-backs isnt v = true
+backs (named o) v = eqb (condByte o) v
+backs unnamed v = true
 
 each-backs : T (upto (λ v. backs (condOf v) v) 256)
 unfolding upto condOf condByte
 each-backs = tt
 
-pub condition : (v : ℕ) (o : Opcode) → v < 256 → condOf v ≡ is o → condByte o ≡ v
+pub condition : (v : ℕ) (o : Opcode) → v < 256 → condOf v ≡ named o → condByte o ≡ v
 condition v o h e = eqb-true _ _ (so _ (subst (λ c. T (backs c v)) e (upto-at (λ v. backs (condOf v) v) 256 each-backs v h)))
 
 seek-small : (cs : List ℕ) (o : Opcode) → Bytes cs → seek cs o < 256
@@ -42,9 +42,9 @@ pub cond-small : (o : Opcode) → condByte o < 256
 unfolding condByte
 cond-small o = seek-small condBytes o (omega arith)
 
-pub means-so : (c : Condition) (o : Opcode) → c ≡ is o → means c o ≡ true
+pub means-so : (c : Condition) (o : Opcode) → c ≡ named o → means c o ≡ true
 means-so c o e = ap (λ x. means x o) e ∙ eq-eqb (opcodeNo o) (opcodeNo o) refl
 
-pub so-means : (c : Condition) (o : Opcode) → means c o ≡ true → c ≡ is o
-so-means (is p) o e = ap is (opcodes-apart p o (eqb-true _ _ e))
-so-means isnt o e = let z : _≡_ {A = ℕ} 0 1 = cc in absurd (omega arith)
+pub so-means : (c : Condition) (o : Opcode) → means c o ≡ true → c ≡ named o
+so-means (named p) o e = ap named (opcodes-apart p o (eqb-true _ _ e))
+so-means unnamed o e = let z : _≡_ {A = ℕ} 0 1 = cc in absurd (omega arith)

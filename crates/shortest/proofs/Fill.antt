@@ -11,7 +11,7 @@ use borrow.Author.Tests.{leb-true, eqb-true, ltb-true, lt-ltb}
 use Rattle.tests.specs.Choice.{both}
 use Rattle.record.specs.declared.Record.{Record}
 use Rattle.rows.specs.declared.Seen.{Seen}
-use Rattle.rows.specs.Row.{disp, imm, imm20, Read, num, cond, stop, is, Face}
+use Rattle.rows.specs.Row.{disp, imm, imm20, Read, num, cond, stop, named, Face}
 use Rattle.rows.specs.Codes.{condOf}
 use Rattle.rows.specs.Fate.{fate}
 use Rattle.rows.specs.Run.{withDisp, withImm, twentyBits, past, renamed}
@@ -51,7 +51,7 @@ fitting (cond ∷ rs) xs f s t c (v, rest, e, h, (o, g, q)) =
     let k = kept rs rest (renamed o f) (past s) t q in
     let p : t .opcode ≡ o = k .opcode (eqb-true _ _ (b .0)) in
     let u : condByte (t .opcode) ≡ v = ap condByte p ∙ condition v o h g in
-    both-so (means-so (condOf (condByte (t .opcode))) (t .opcode) (ap condOf u ∙ (g ∙ ap is (sym p)))) (fitting rs rest (renamed o f) (past s) t (b .1) q)
+    both-so (means-so (condOf (condByte (t .opcode))) (t .opcode) (ap condOf u ∙ (g ∙ ap named (sym p)))) (fitting rs rest (renamed o f) (past s) t (b .1) q)
 fitting (stop x ∷ rs) xs f s t c q = refl
 
 pub fits-same : (rs : List Read) (t s : Record) → t .opcode ≡ s .opcode → (1 ≤ imms rs → t .«imm_wide» ≡ s .«imm_wide»)

@@ -17,7 +17,7 @@ use Rattle.record.specs.declared.Width.the-variants.{None, B, W}
 use Rattle.record.specs.declared.Operand.{Operand}
 use Rattle.record.specs.declared.Operand.the-variants.{Imm4, Imm8}
 use Rattle.record.specs.Numbers.{sizeNo, widthNo, operandNo}
-use Rattle.record.specs.Same.{is, among, fieldOf, baseOf}
+use Rattle.record.specs.Same.{sameName, among, fieldOf, baseOf}
 use Rattle.record.proofs.Apart.{sizes-apart, widths-apart, opcodes, operands-apart}
 use Rattle.record.proofs.Arms.{every-opcode}
 use Rattle.rows.specs.Codes.{condOf}
@@ -66,14 +66,14 @@ abbrev Tested : Width → Type 0
 Tested w = T (every (λ i o. formTest w o) 0 opcodes)
 
 tested : (w : Width) → Tested w
-unfolding formTest upto rowsOf known condOf condByte chooseBy place formOf is among conds fieldOf baseOf whole
+unfolding formTest upto rowsOf known condOf condByte chooseBy place formOf sameName among conds fieldOf baseOf whole
 tested B = tt
 tested W = tt
 tested None = tt
 
 -- a test at every name of a list holds at a name among them
 at-among : (f : Operand → Bool) (xs : List Operand) (i : ℕ) → T (every (λ i x. f x) i xs) → (x : Operand) → among xs x ≡ true → T (f x)
-unfolding among is
+unfolding among sameName
 at-among f [] i t x m = absurd (subst T (sym m) tt)
 at-among f (y ∷ ys) i t x m = by (eqb (operandNo x) (operandNo y)) refl (λ n. at-among f ys _ (both-right (f y) _ t) x n)
   where
@@ -125,11 +125,11 @@ in-range w x v l z = by w l z
     some true l z = ltb-true _ _ l
     some false l z = subst (λ v. v < 1) (sym (z refl)) (ltb-true 0 1 refl)
 
-    by : (w : Width) → at w true true (ltb v (numberLimit x)) ≡ true → (both (eqb (widthNo w) 0) (either (is x Imm4) (is x Imm8)) ≡ false → v ≡ 0)
-        → v < pick (both (eqb (widthNo w) 0) (either (is x Imm4) (is x Imm8))) (numberLimit x) 1
+    by : (w : Width) → at w true true (ltb v (numberLimit x)) ≡ true → (both (eqb (widthNo w) 0) (either (sameName x Imm4) (sameName x Imm8)) ≡ false → v ≡ 0)
+        → v < pick (both (eqb (widthNo w) 0) (either (sameName x Imm4) (sameName x Imm8))) (numberLimit x) 1
     by B l z = subst (λ v. v < 1) (sym (z refl)) (ltb-true 0 1 refl)
     by W l z = subst (λ v. v < 1) (sym (z refl)) (ltb-true 0 1 refl)
-    by None l z = some (either (is x Imm4) (is x Imm8)) l z
+    by None l z = some (either (sameName x Imm4) (sameName x Imm8)) l z
 
 pub formed : (o : Opcode) (q : Asked) (a b : ℕ) → goesWith (formOf o) q ≡ true → (whole (q .width) (q .op0) ≡ false → q .number ≡ 0) → chooseBy o q ≡ code a b → Formed a b o q
 unfolding goesWith formTest

@@ -15,7 +15,7 @@ use Rattle.record.specs.declared.Answer.{Answer}
 use Rattle.record.specs.declared.Opcode.{Opcode}
 use Rattle.rows.specs.declared.Seen.{Seen}
 use Rattle.rows.specs.declared.Got.the-variants.{On, Short}
-use Rattle.rows.specs.Row.{disp, imm, imm20, Refusal, InvalidOpcode, InvalidOperand, refusalNo, Read, num, cond, stop, Condition, is, isnt, Face}
+use Rattle.rows.specs.Row.{disp, imm, imm20, Refusal, InvalidOpcode, InvalidOperand, refusalNo, Read, num, cond, stop, Condition, named, unnamed, Face}
 use Rattle.rows.specs.Codes.{condOf}
 use Rattle.rows.specs.Run.{bytes, withDisp, withImm, readDisp, readImm, twentyBits, accepted, refusal, andThen, past, renamed, judged, run}
 use Rattle.shortest.specs.Digits.{some, grab, digits}
@@ -39,7 +39,7 @@ Runs (num (disp zero) ∷ rs) xs f s t = Runs rs xs f s t
 Runs (num (disp (suc n)) ∷ rs) xs f s t = Off (suc n) xs (λ v rest. Runs rs rest f (withDisp (suc n) v s) t)
 Runs (num (imm n) ∷ rs) xs f s t = Off n xs (λ v rest. Runs rs rest f (withImm n (v % 256 ^ n) s) t)
 Runs (num imm20 ∷ rs) xs f s t = Off 3 xs (λ v rest. Runs rs rest f (withImm 3 (v % twentyBits) s) t)
-Runs (cond ∷ rs) xs f s t = Off 1 xs (λ v rest. (o : Opcode) × (condOf v ≡ is o) × Runs rs rest (renamed o f) (past s) t)
+Runs (cond ∷ rs) xs f s t = Off 1 xs (λ v rest. (o : Opcode) × (condOf v ≡ named o) × Runs rs rest (renamed o f) (past s) t)
 Runs (stop e ∷ rs) xs f s t = ⊥
 
 drop-bytes : (p : ℕ) (bs : List ℕ) → Bytes bs → Bytes (drop p bs)
@@ -93,9 +93,9 @@ passed : (b : Bool) (y : Answer) (e n : ℕ) (x : Answer) → 1 ≤ e → pick b
 passed true y e n x l q z = (refl, q)
 passed false y e n x l q z = absurd (omega (arith, ap (λ y. y .refusal) q))
 
-judging : (c : Condition) (s : Seen) (k : Opcode → Answer) (x : Answer) → judged c s k ≡ x → x .refusal ≡ 0 → (o : Opcode) × (c ≡ is o) × (k o ≡ x)
-judging (is o) s k x e z = (o, refl, e)
-judging isnt s k x e z = absurd (omega (arith, ap (λ y. y .refusal) e))
+judging : (c : Condition) (s : Seen) (k : Opcode → Answer) (x : Answer) → judged c s k ≡ x → x .refusal ≡ 0 → (o : Opcode) × (c ≡ named o) × (k o ≡ x)
+judging (named o) s k x e z = (o, refl, e)
+judging unnamed s k x e z = absurd (omega (arith, ap (λ y. y .refusal) e))
 
 -- a row's own refusal is one
 pub own : (e : Refusal) → refusalNo e ≡ 0 → ⊥

@@ -16,7 +16,7 @@ use Rattle.record.specs.declared.Operand.{Operand}
 use Rattle.record.specs.declared.Operand.the-variants.{Nothing, Imm4, R0L, R0, R2R0, R3R1, A1A0, Abs16, Abs20, «Deref_A0», «Deref_A1», «Disp8_A0», «Disp8_A1», «Disp8_SB», «Disp8_FB», «Disp8_SP», «Disp16_A0», «Disp16_A1», «Disp16_SB», «Disp20_A0», «Disp20_A1», «Bit_R0», «Bit_R1», «Bit_R2», «Bit_R3», «Bit_A0», «Bit_A1», «Bit_Deref_A0», «Bit_Deref_A1», «Bit_Disp8_A0», «Bit_Disp8_A1», «Bit_Disp8_SB», «Bit_Disp8_FB», «Bit_Disp16_A0», «Bit_Disp16_A1», «Bit_Disp16_SB», «Bit_Abs16», INTBL, INTBH, FLG, ISP, SP, SB, FB}
 use Rattle.record.specs.Numbers.{opcodeNo}
 use Rattle.record.specs.declared.Key.{Key}
-use Rattle.record.specs.Same.{is, Field, nowhere, wide, short, early, fieldOf, key}
+use Rattle.record.specs.Same.{sameName, Field, nowhere, wide, short, early, fieldOf, key}
 use Rattle.rows.specs.Codes.{byteNames, wordNames}
 use Rattle.rows.specs.Rows.{document01}
 use Rattle.shortest.specs.declared.Asked.{Asked}
@@ -28,9 +28,9 @@ use Rattle.shortest.specs.Forms.{formOf, goesWith}
 -- the shortest name for a base, as its number is 0, or below 256
 abbrev pub narrow : Operand → Bool → Bool → Operand
 narrow o z s =
-    pick (is o «Disp16_A0») (pick z «Deref_A0» (pick s «Disp8_A0» «Disp16_A0»))
-    (pick (is o «Disp16_A1») (pick z «Deref_A1» (pick s «Disp8_A1» «Disp16_A1»))
-    (pick (is o «Disp16_SB») (pick s «Disp8_SB» «Disp16_SB») o))
+    pick (sameName o «Disp16_A0») (pick z «Deref_A0» (pick s «Disp8_A0» «Disp16_A0»))
+    (pick (sameName o «Disp16_A1») (pick z «Deref_A1» (pick s «Disp8_A1» «Disp16_A1»))
+    (pick (sameName o «Disp16_SB») (pick s «Disp8_SB» «Disp16_SB») o))
 
 -- no row of MOVA or PUSHA names Deref: there a displacement of 0 is not dropped
 unfoldable pub dropsZero : Opcode → Bool
@@ -49,7 +49,7 @@ asked k = record {
 -- the codes of names
 unfoldable pub place : List Operand → Operand → ℕ
 place [] o = 0
-place (x ∷ xs) o = pick (is x o) 0 (suc (place xs o))
+place (x ∷ xs) o = pick (sameName x o) 0 (suc (place xs o))
 
 abbrev pub codeG : Width → Operand → ℕ
 codeG B o = place byteNames o
@@ -115,18 +115,18 @@ decimal i q = orImm (only 0x7C (0xEC + i) q) (only 0x7C (0xE4 + i) q) q
 
 -- MOVLL and the like: to R0L, which comes first, or from it
 abbrev pub half : ℕ → Asked → Choice
-half h q = pick (is (q .op1) R0L) (code 0x7C (16 * h + codeG B (q .op0))) (pick (is (q .op0) R0L) (code 0x7C (16 * (8 + h) + codeG B (q .op1))) nothing)
+half h q = pick (sameName (q .op1) R0L) (code 0x7C (16 * h + codeG B (q .op0))) (pick (sameName (q .op0) R0L) (code 0x7C (16 * (8 + h) + codeG B (q .op1))) nothing)
 
 -- STE and LDE, by the operand beside G(n)
 abbrev pub far : Operand → ℕ
-far o = pick (is o Abs20) 0 (pick (is o «Disp20_A0») 1 2)
+far o = pick (sameName o Abs20) 0 (pick (sameName o «Disp20_A0») 1 2)
 
 -- SHL and SHA: at size L a pair, by R1H or by Imm4
 abbrev pub pair : Operand → ℕ
-pair o = pick (is o R2R0) 0 1
+pair o = pick (sameName o R2R0) 0 1
 
 abbrev pub long : ℕ → Asked → Choice
-long s q = pick (is (q .op0) Imm4) (code 0xEB (16 * (8 + s + pair (q .op1)) + q .number)) (code 0xEB (16 * (s + pair (q .op1)) + 1))
+long s q = pick (sameName (q .op0) Imm4) (code 0xEB (16 * (8 + s + pair (q .op1)) + q .number)) (code 0xEB (16 * (s + pair (q .op1)) + 1))
 
 abbrev pub onSize : Size → Choice → Choice → Choice
 onSize size.L x y = x
@@ -142,7 +142,7 @@ chooseBy NOP q = nothing
 chooseBy ABS q = unary 0x76 0xF q
 chooseBy ADC q = binary 0x76 6 q
 chooseBy ADCF q = nothing
-chooseBy ADD q = pick (is (q .op1) SP) (only 0x7C 0xEB q) (binary 0x76 4 q)
+chooseBy ADD q = pick (sameName (q .op1) SP) (only 0x7C 0xEB q) (binary 0x76 4 q)
 chooseBy AND q = binary 0x76 2 q
 chooseBy BAND q = bit 4 q
 chooseBy BCLR q = bit 8 q
@@ -181,7 +181,7 @@ chooseBy DSBB q = decimal 3 q
 chooseBy DSUB q = decimal 1 q
 chooseBy ENTER q = code 0x7C 0xF2
 chooseBy EXITD q = code 0x7D 0xF2
-chooseBy EXTS q = pick (is (q .op0) R0) (code 0x7C 0xF3) (code 0x7C (0x60 + codeG B (q .op0)))
+chooseBy EXTS q = pick (sameName (q .op0) R0) (code 0x7C 0xF3) (code 0x7C (0x60 + codeG B (q .op0)))
 chooseBy FCLR q = nothing
 chooseBy FSET q = nothing
 chooseBy GE q = nothing
@@ -199,7 +199,7 @@ chooseBy LDCTX q = code 0x7C 0xF0
 chooseBy LDE q = binary 0x74 (8 + far (q .op0)) q
 chooseBy LDIPL q = nothing
 chooseBy LT q = nothing
-chooseBy MOV q = binary 0x74 (pick (is (q .op0) «Disp8_SP») 0xB 0xC) q
+chooseBy MOV q = binary 0x74 (pick (sameName (q .op0) «Disp8_SP») 0xB 0xC) q
 chooseBy MOVA q = code 0xEB (16 * codeG W (q .op1) + codeG W (q .op0))
 chooseBy MOVHH q = half 3 q
 chooseBy MOVHL q = half 2 q

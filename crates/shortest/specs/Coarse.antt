@@ -12,9 +12,8 @@ use Rattle.record.specs.declared.Operand.{Operand}
 use Rattle.record.specs.declared.Operand.the-variants.{Nothing, Imm4, Imm8}
 use Rattle.record.specs.Numbers.{widthNo}
 use Rattle.record.specs.declared.Key.{Key}
-use Rattle.record.specs.Same.{is, baseOf, Field, nowhere, wide, short, early, fieldOf}
-use Rattle.rows.specs.Row.{disp, imm, imm20, Read, num, cond, stop, Condition, isnt, Face, Row, Table}
-use Rattle.rows.specs.Row as row
+use Rattle.record.specs.Same.{sameName, baseOf, Field, nowhere, wide, short, early, fieldOf}
+use Rattle.rows.specs.Row.{disp, imm, imm20, Read, num, cond, stop, Condition, named, unnamed, Face, Row, Table}
 use Rattle.rows.specs.Codes.{condOf}
 use Rattle.rows.specs.Run.{twentyBits}
 use Rattle.shortest.specs.Search.{imms, conds, live, firstb}
@@ -30,7 +29,7 @@ rep c = getD (0 ∷ 1 ∷ 256 ∷ 65536 ∷ twentyBits ∷ []) c 0
 
 -- at no width, Imm4 and Imm8 are part of the code (the long shifts and INT): their numbers are told apart one by one
 unfoldable pub whole : Width → Operand → Bool
-whole w o = both (eqb (widthNo w) 0) (either (is o Imm4) (is o Imm8))
+whole w o = both (eqb (widthNo w) 0) (either (sameName o Imm4) (sameName o Imm8))
 
 abbrev pub wholeKey : Key → Bool
 wholeKey k = whole (k .width) (k .base0)
@@ -103,8 +102,8 @@ keyAt w o i j = record {
 
 -- the opcodes that a row can have: its own, or those of its condition
 abbrev pub onCond : Condition → (Opcode → Bool) → Bool
-onCond (row.is o) f = f o
-onCond isnt f = true
+onCond (named o) f = f o
+onCond unnamed f = true
 
 abbrev pub opcodes : ℕ → Opcode → (Opcode → Bool) → Bool
 opcodes zero o f = f o

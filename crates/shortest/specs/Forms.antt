@@ -15,7 +15,7 @@ use Rattle.record.specs.declared.Width.the-variants.{None, B, W}
 use Rattle.record.specs.declared.Operand.{Operand}
 use Rattle.record.specs.declared.Operand.the-variants.{Nothing, Imm4, Imm8, Imm16, R0L, R0H, R1L, R1H, R0, R1, R2R0, R3R1, A0, A1, A1A0, «Bit_R0», «Bit_R1», «Bit_R2», «Bit_R3», «Bit_A0», «Bit_A1», «Bit_Deref_A0», «Bit_Deref_A1», «Bit_Disp8_A0», «Bit_Disp8_A1», «Bit_Disp8_SB», «Bit_Disp8_FB», «Bit_Disp16_A0», «Bit_Disp16_A1», «Bit_Disp16_SB», «Bit_Abs16», «Disp8_A0», «Disp8_A1», «Disp8_SB», «Disp8_FB», «Disp8_SP», «Disp16_SB», «Disp20_A0», «Disp20_A1», «Deref_A0», «Deref_A1», «Deref_A1A0», Abs16, Abs20, Disp8, INTBL, INTBH, FLG, ISP, SP, SB, FB}
 use Rattle.record.specs.Numbers.{sizeNo}
-use Rattle.record.specs.Same.{is, among}
+use Rattle.record.specs.Same.{sameName, among}
 use Rattle.rows.specs.Codes.{byteNames, wordNames}
 use Rattle.shortest.specs.declared.Asked.{Asked}
 
@@ -246,7 +246,7 @@ names Control w = go (at w [] [] controls) none
 
 -- a number that is part of the code, at no width: Imm4 of the long shifts, Imm8 of INT
 abbrev pub numberLimit : Operand → ℕ
-numberLimit o = pick (is o Imm4) 16 64
+numberLimit o = pick (sameName o Imm4) 16 64
 
 -- what is asked for has the size and the names of its opcode's form
 unfoldable pub goesWith : Form → Asked → Bool

@@ -11,9 +11,8 @@ use Rattle.record.specs.declared.Opcode.{Opcode}
 use Rattle.record.specs.declared.Operand.the-variants.{Nothing, «Disp8_SP»}
 use Rattle.record.specs.Numbers.{opcodeNo, sizeNo, widthNo, operandNo}
 use Rattle.record.specs.declared.Key.{Key}
-use Rattle.record.specs.Same.{is, Field, nowhere, wide, short, early, fieldOf, key}
-use Rattle.rows.specs.Row.{disp, imm, imm20, Read, num, cond, stop, Condition, isnt, Face, Row, Table}
-use Rattle.rows.specs.Row as row
+use Rattle.record.specs.Same.{sameName, Field, nowhere, wide, short, early, fieldOf, key}
+use Rattle.rows.specs.Row.{disp, imm, imm20, Read, num, cond, stop, Condition, named, unnamed, Face, Row, Table}
 use Rattle.rows.specs.Codes.{condOf}
 use Rattle.rows.specs.Fate.{fate}
 use Rattle.rows.specs.Run.{decodeBy}
@@ -22,8 +21,8 @@ use Rattle.shortest.specs.Digits.{digits}
 
 -- the byte of a condition: the first that is read as this opcode, of those that are read as any
 abbrev pub means : Condition → Opcode → Bool
-means (row.is p) o = eqb (opcodeNo p) (opcodeNo o)
-means isnt o = false
+means (named p) o = eqb (opcodeNo p) (opcodeNo o)
+means unnamed o = false
 
 abbrev pub seek : List ℕ → Opcode → ℕ
 seek [] o = 0
@@ -98,8 +97,8 @@ firstFor false k = k .number0
 unfoldable pub aim : Face → Key → Record
 aim f k = record {
   «imm_wide» = wideFor (fieldOf (f .op0)) k;
-  dispabs = dispFor (fieldOf (f .op0)) (fieldOf (f .op1)) (is (f .op0) «Disp8_SP») k;
-  first = firstFor (is (f .op0) «Disp8_SP») k;
+  dispabs = dispFor (fieldOf (f .op0)) (fieldOf (f .op1)) (sameName (f .op0) «Disp8_SP») k;
+  first = firstFor (sameName (f .op0) «Disp8_SP») k;
   length = 2;
   opcode = k .opcode;
   size = f .size;

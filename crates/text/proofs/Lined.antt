@@ -15,9 +15,9 @@ use Rattle.record.specs.declared.Operand.{Operand}
 use Rattle.record.specs.Same.{key}
 use Rattle.text.specs.Characters.{spelled}
 use Rattle.text.specs.Line.{widthText, opcodeText, sizeText, shown, digitsOf, numberText, operandText, fromWidth, lineOf, endText, refusedText}
-use Rattle.text.specs.Packed.{pack, text, head, tail, placeText, lengthText, parts, endParts, refusedParts}
+use Rattle.text.specs.Packed.{pack, text, firstEight, afterEight, placeText, lengthText, parts, endParts, refusedParts}
 use Rattle.text.proofs.Unpacked.{wordy, wordy-hex, wordy-digits, wordy-equals, joined, Wordy, done, _also_, text-of, text-short}
-use Rattle.text.proofs.Spelling.{opcode-wordy, head-wordy, tail-wordy, digits-few}
+use Rattle.text.proofs.Spelling.{opcode-wordy, first-wordy, after-wordy, digits-few}
 
 width-wordy : (w : Width) → T (wordy 8 (widthText w))
 width-wordy width.None = tt
@@ -36,14 +36,14 @@ number-wordy a v = wordy-equals (digitsOf a) v (digits-few a)
 parts-wordy : (r : Record) → Wordy (parts r)
 parts-wordy r =
     width-wordy (r .width) also opcode-wordy (r .opcode) also size-wordy (r .size)
-    also head-wordy (r .op0) also tail-wordy (r .op0) also number-wordy (r .op0) (key r .number0)
-    also head-wordy (r .op1) also tail-wordy (r .op1) also number-wordy (r .op1) (key r .number1)
-    also head-wordy (r .op2) also tail-wordy (r .op2) also number-wordy (r .op2) (key r .number2) also done
+    also first-wordy (r .op0) also after-wordy (r .op0) also number-wordy (r .op0) (key r .number0)
+    also first-wordy (r .op1) also after-wordy (r .op1) also number-wordy (r .op1) (key r .number1)
+    also first-wordy (r .op2) also after-wordy (r .op2) also number-wordy (r .op2) (key r .number2) also done
 
 -- a name's two words, and the number behind them
-operand-joined : (a : Operand) (v : ℕ) (xs : List ℕ) → head (shown a) ++ (tail (shown a) ++ (numberText a v ++ xs)) ≡ operandText a v ++ xs
+operand-joined : (a : Operand) (v : ℕ) (xs : List ℕ) → firstEight (shown a) ++ (afterEight (shown a) ++ (numberText a v ++ xs)) ≡ operandText a v ++ xs
 operand-joined a v xs =
-    sym (append-assoc (head (shown a)) (tail (shown a)) (numberText a v ++ xs))
+    sym (append-assoc (firstEight (shown a)) (afterEight (shown a)) (numberText a v ++ xs))
     ∙ ap (λ s. s ++ (numberText a v ++ xs)) (take-append-drop 8 (shown a)) ∙ sym (append-assoc (shown a) (numberText a v) xs)
 
 parts-joined : (r : Record) → joined (parts r) ≡ fromWidth r

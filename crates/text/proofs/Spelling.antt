@@ -14,11 +14,11 @@ use Rattle.record.specs.declared.Opcode.{Opcode}
 use Rattle.record.specs.declared.Operand.{Operand}
 use Rattle.record.specs.declared.Operand.the-variants.{Nothing, Imm4}
 use Rattle.record.specs.Numbers.{opcodeNo, operandNo}
-use Rattle.record.specs.Same.{is, among}
+use Rattle.record.specs.Same.{sameName, among}
 use Rattle.text.specs.Characters.{spelled}
 use Rattle.text.specs.Names.{opcodeNames, opcodeName, operandNames, operandName}
 use Rattle.text.specs.Line.{opcodeText, byteNames, wordNames, twentyNames, digitsOf, shown}
-use Rattle.text.specs.Packed.{head, tail}
+use Rattle.text.specs.Packed.{firstEight, afterEight}
 use Rattle.text.proofs.Unpacked.{wordy}
 
 -- a test that passes at every entry and at the default passes at any number
@@ -37,21 +37,21 @@ opcode-wordy o = anywhere oneWord "" opcodeNames 0 tt tt (opcodeNo o)
 
 -- an operand's in two
 abbrev twoWords : String → Bool
-twoWords s = both (wordy 8 (head (spelled " " ++ spelled s))) (wordy 8 (tail (spelled " " ++ spelled s)))
+twoWords s = both (wordy 8 (firstEight (spelled " " ++ spelled s))) (wordy 8 (afterEight (spelled " " ++ spelled s)))
 
-shown-wordy : (b : Bool) (s : List ℕ) → T (both (wordy 8 (head s)) (wordy 8 (tail s))) → T (both (wordy 8 (head (pick b [] s))) (wordy 8 (tail (pick b [] s))))
+shown-wordy : (b : Bool) (s : List ℕ) → T (both (wordy 8 (firstEight s)) (wordy 8 (afterEight s))) → T (both (wordy 8 (firstEight (pick b [] s))) (wordy 8 (afterEight (pick b [] s))))
 shown-wordy true s t = tt
 shown-wordy false s t = t
 
-words : (a : Operand) → T (both (wordy 8 (head (shown a))) (wordy 8 (tail (shown a))))
+words : (a : Operand) → T (both (wordy 8 (firstEight (shown a))) (wordy 8 (afterEight (shown a))))
 unfolding operandNames operandName shown
-words a = shown-wordy (is a Nothing) (spelled " " ++ operandName a) (anywhere twoWords "" operandNames 0 tt tt (operandNo a))
+words a = shown-wordy (sameName a Nothing) (spelled " " ++ operandName a) (anywhere twoWords "" operandNames 0 tt tt (operandNo a))
 
-pub head-wordy : (a : Operand) → T (wordy 8 (head (shown a)))
-head-wordy a = both-left (wordy 8 (head (shown a))) (wordy 8 (tail (shown a))) (words a)
+pub first-wordy : (a : Operand) → T (wordy 8 (firstEight (shown a)))
+first-wordy a = both-left (wordy 8 (firstEight (shown a))) (wordy 8 (afterEight (shown a))) (words a)
 
-pub tail-wordy : (a : Operand) → T (wordy 8 (tail (shown a)))
-tail-wordy a = both-right (wordy 8 (head (shown a))) (wordy 8 (tail (shown a))) (words a)
+pub after-wordy : (a : Operand) → T (wordy 8 (afterEight (shown a)))
+after-wordy a = both-right (wordy 8 (firstEight (shown a))) (wordy 8 (afterEight (shown a))) (words a)
 
 few : (a b c d : Bool) → pick a 1 (pick b 2 (pick c 4 (pick d 5 0))) ≤ 5
 few true b c d = omega arith
@@ -63,4 +63,4 @@ few false false false false = omega arith
 -- no number has more than five digits
 pub digits-few : (a : Operand) → digitsOf a ≤ 5
 unfolding digitsOf
-digits-few a = few (is a Imm4) (among byteNames a) (among wordNames a) (among twentyNames a)
+digits-few a = few (sameName a Imm4) (among byteNames a) (among wordNames a) (among twentyNames a)

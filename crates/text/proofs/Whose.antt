@@ -9,7 +9,7 @@ use Rattle.record.specs.declared.Record.{Record}
 use Rattle.record.specs.declared.Operand.{Operand}
 use Rattle.record.specs.declared.Operand.the-variants.{«Disp8_SP»}
 use Rattle.record.specs.Numbers.{operandNo}
-use Rattle.record.specs.Same.{is, fieldOf, shared, valueOf}
+use Rattle.record.specs.Same.{sameName, fieldOf, shared, valueOf}
 use Rattle.text.specs.declared.names.Field.{Field}
 use Rattle.text.specs.declared.names.Field.the-variants.{Nowhere, Wide, Short}
 use Rattle.text.specs.Line.{digitsOf, equals}
@@ -34,12 +34,12 @@ flipped false = refl
 
 -- the code asks by its number whether an operand is Disp8_SP
 module _ (a : Operand) {k : ℕ} (e : k ≡ operandNo a) where
-  pub on-stack : eqb k 37 ≡ is a «Disp8_SP»
-  unfolding is
+  pub on-stack : eqb k 37 ≡ sameName a «Disp8_SP»
+  unfolding sameName
   on-stack = ap (λ n. eqb n 37) e
 
-  pub off-stack : not (eqb k 37) ≡ pick (is a «Disp8_SP») false true
-  off-stack = ap not on-stack ∙ flipped (is a «Disp8_SP»)
+  pub off-stack : not (eqb k 37) ≡ pick (sameName a «Disp8_SP») false true
+  off-stack = ap not on-stack ∙ flipped (sameName a «Disp8_SP»)
 
 -- the word of the number of one of two operands, and of a third's
 module _ (r : Record) (a : Operand) (f : Field) {n x : ℕ} (digits : n ≡ digitsOf a) (field : kept f ≡ fieldOf a) where

@@ -10,7 +10,7 @@ use Rattle.record.specs.declared.Width.{Width}
 use Rattle.record.specs.declared.Width.the-variants as width
 use Rattle.record.specs.declared.Operand.{Operand}
 use Rattle.record.specs.declared.Operand.the-variants.{Nothing, Imm4, Imm8, Imm16, RegList, Abs16, Abs20, Disp8, «Disp8_A0», «Disp8_A1», «Disp8_SB», «Disp8_FB», «Disp8_SP», «Disp16_A0», «Disp16_A1», «Disp16_SB», «Disp20_A0», «Disp20_A1», «Bit_R0», «Bit_R1», «Bit_R2», «Bit_R3», «Bit_A0», «Bit_A1», «Bit_Disp8_A0», «Bit_Disp8_A1», «Bit_Disp8_SB», «Bit_Disp8_FB», «Bit_Disp16_A0», «Bit_Disp16_A1», «Bit_Disp16_SB», «Bit_Abs16»}
-use Rattle.record.specs.Same.{is, among, key}
+use Rattle.record.specs.Same.{sameName, among, key}
 use Rattle.text.specs.Characters.{spelled, hex}
 use Rattle.text.specs.Names.{opcodeName, operandName}
 
@@ -43,7 +43,7 @@ twentyNames = Abs20 ∷ «Disp20_A0» ∷ «Disp20_A1» ∷ []
 
 -- how many digits are shown of a name's number: one of Imm4; no digit of a name without a number
 unfoldable pub digitsOf : Operand → ℕ
-digitsOf a = pick (is a Imm4) 1 (pick (among byteNames a) 2 (pick (among wordNames a) 4 (pick (among twentyNames a) 5 0)))
+digitsOf a = pick (sameName a Imm4) 1 (pick (among byteNames a) 2 (pick (among wordNames a) 4 (pick (among twentyNames a) 5 0)))
 
 abbrev pub equals : ℕ → ℕ → List ℕ
 equals zero v = []
@@ -55,7 +55,7 @@ numberText a v = equals (digitsOf a) v
 
 -- a name that is shown; Nothing is not
 unfoldable pub shown : Operand → List ℕ
-shown a = pick (is a Nothing) [] (spelled " " ++ operandName a)
+shown a = pick (sameName a Nothing) [] (spelled " " ++ operandName a)
 
 abbrev pub operandText : Operand → ℕ → List ℕ
 operandText a v = shown a ++ numberText a v

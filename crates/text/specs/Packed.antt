@@ -31,11 +31,11 @@ text [] = []
 text (w ∷ ws) = chars w ++ text ws
 
 -- a name in two words
-abbrev pub head : List ℕ → List ℕ
-head s = take 8 s
+abbrev pub firstEight : List ℕ → List ℕ
+firstEight s = take 8 s
 
-abbrev pub tail : List ℕ → List ℕ
-tail s = drop 8 s
+abbrev pub afterEight : List ℕ → List ℕ
+afterEight s = drop 8 s
 
 -- where the code says that an operand's number is
 abbrev pub kept : Field → same.Field
@@ -64,9 +64,9 @@ lengthText n = hex 1 n ++ spelled " "
 abbrev pub parts : Record → List (List ℕ)
 parts r =
     widthText (r .width) ∷ opcodeText (r .opcode) ∷ sizeText (r .size)
-    ∷ head (shown (r .op0)) ∷ tail (shown (r .op0)) ∷ numberText (r .op0) (key r .number0)
-    ∷ head (shown (r .op1)) ∷ tail (shown (r .op1)) ∷ numberText (r .op1) (key r .number1)
-    ∷ head (shown (r .op2)) ∷ tail (shown (r .op2)) ∷ numberText (r .op2) (key r .number2) ∷ []
+    ∷ firstEight (shown (r .op0)) ∷ afterEight (shown (r .op0)) ∷ numberText (r .op0) (key r .number0)
+    ∷ firstEight (shown (r .op1)) ∷ afterEight (shown (r .op1)) ∷ numberText (r .op1) (key r .number1)
+    ∷ firstEight (shown (r .op2)) ∷ afterEight (shown (r .op2)) ∷ numberText (r .op2) (key r .number2) ∷ []
 
 abbrev pub endParts : ℕ → List (List ℕ)
 endParts place = spelled "END " ∷ hex 4 place ∷ []

@@ -2,7 +2,7 @@
 ghost use mathlib.Core.Path.{_≡_};
 ghost use Rattle.record.specs.Same.{fieldOf};
 ghost use Rattle.text.specs.Line.{opcodeText, shown, digitsOf};
-ghost use Rattle.text.specs.Packed.{pack, head, tail, kept};
+ghost use Rattle.text.specs.Packed.{pack, firstEight, afterEight, kept};
 use record::Opcode;
 use record::Operand;
 
@@ -122,7 +122,7 @@ pub enum Field {
 pub struct Shown(pub u64, pub u64, pub u8, pub Field);
 
 pub fn operand_shown(x: Operand) -> Shown
-    ensures { λ r. ⌜ (r .0 ≡ pack (head (shown x))) × (r .1 ≡ pack (tail (shown x))) × (r .2 ≡ digitsOf x) × (kept (r .3) ≡ fieldOf x) ⌝ }
+    ensures { λ r. ⌜ (r .0 ≡ pack (firstEight (shown x))) × (r .1 ≡ pack (afterEight (shown x))) × (r .2 ≡ digitsOf x) × (kept (r .3) ≡ fieldOf x) ⌝ }
 {
     match x {
         Operand::Nothing => Shown(0, 0, 0, Field::Nowhere),

@@ -118,8 +118,8 @@ fn shown_number(x: Shown, wide: u64, short: u64) -> u64
 }
 
 // The words of a line, behind two that are given.
-pub fn words_of(place: u64, length: u64, r: Record) -> [u64; 14]
-    ensures { λ w. ⌜ w ≡ place ∷ length ∷ map pack (parts r) ⌝ }
+pub fn words_of(first: u64, second: u64, r: Record) -> [u64; 14]
+    ensures { λ w. ⌜ w ≡ first ∷ second ∷ map pack (parts r) ⌝ }
 {
     let op0 = r.op0;
     let op1 = r.op1;
@@ -137,8 +137,8 @@ pub fn words_of(place: u64, length: u64, r: Record) -> [u64; 14]
     let opcode = r.opcode;
     let size = r.size;
     [
-        place,
-        length,
+        first,
+        second,
         width_word(width),
         names::opcode_word(opcode),
         size_word(size),
@@ -161,10 +161,10 @@ pub fn place_word(place: usize) -> u64
     digits(4, place as u64) + 0x2000000000
 }
 
-pub fn length_word(length: usize) -> u64
-    ensures { λ r. ⌜ r ≡ pack (lengthText length) ⌝ }
+pub fn length_word(n: usize) -> u64
+    ensures { λ r. ⌜ r ≡ pack (lengthText n) ⌝ }
 {
-    digits(1, length as u64) + 0x2000
+    digits(1, n as u64) + 0x2000
 }
 
 pub fn end_words(place: usize) -> [u64; 2]

@@ -5,16 +5,16 @@ use lib.Dec.{ltb}
 use borrow.Author.Needs.{needs}
 use borrow.Author.Tests.{eq-eqb, ne-eqb}
 use Rattle.tests.specs.Choice.{pick}
-use Rattle.record.specs.Same.{is}
+use Rattle.record.specs.Same.{sameName}
 use Rattle.forms.proofs.number_goes.Statement.{statement}
 use Rattle.forms.proofs.number_goes.Tie as tie
 
 returns : tie.Need-returns
-unfolding is
+unfolding sameName
 returns c = ap (λ b. ltb (c .before .before .before .before .args .q .number) (pick b 16 64)) (sym (eq-eqb _ _ (sym (c .before .before .before .operand-number .ensures) ∙ c .before .if1 .taken ∙ c .before .before .operand-number2 .ensures)))
 
 returns-2 : tie.Need-returns-2
-unfolding is
+unfolding sameName
 returns-2 c = ap (λ b. ltb (c .before .before .before .before .args .q .number) (pick b 16 64)) (sym (ne-eqb _ _ (λ e. c .before .if1 .left (c .before .before .before .operand-number .ensures ∙ e ∙ sym (c .before .before .operand-number2 .ensures)))))
 
 pub number-goes-spec : {M : Type 1} → statement M

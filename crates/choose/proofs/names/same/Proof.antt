@@ -3,12 +3,12 @@
 use mathlib.Core.Path.{ap₂}
 use lib.Dec.{eqb}
 use borrow.Author.Needs.{needs}
-use Rattle.record.specs.Same.{is}
+use Rattle.record.specs.Same.{sameName}
 use Rattle.choose.proofs.names.same.Statement.{statement}
 use Rattle.choose.proofs.names.same.Tie as tie
 
 returns : tie.Need-returns
-unfolding is
+unfolding sameName
 returns c = ap₂ eqb (c .before .operand-number .ensures) (c .operand-number2 .ensures)
 
 pub same-spec : {M : Type 1} → statement M

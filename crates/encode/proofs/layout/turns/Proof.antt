@@ -3,18 +3,18 @@
 use mathlib.Core.Bool.{true, false}
 use mathlib.Core.List.{[], _∷_}
 use Rattle.record.specs.declared.Operand.the-variants.{Imm4, Imm8, Imm16, «Disp8_SP», «Disp20_A0», «Disp20_A1», Abs20, Disp8, RegList}
-use Rattle.record.specs.Same.{is, among, fieldOf}
+use Rattle.record.specs.Same.{sameName, among, fieldOf}
 use Rattle.encode.specs.Slots as slots
 use Rattle.record.proofs.Arms.{keys, others, tested}
 use Rattle.encode.proofs.layout.turns.Statement.{statement}
 use Rattle.encode.proofs.layout.turns.Tie as tie
 
 returns : tie.Need-returns
-unfolding is among fieldOf slots.turns
+unfolding sameName among fieldOf slots.turns
 returns c = tested (λ o. true) (λ o. slots.turns o) (keys (Imm4 ∷ Imm8 ∷ Imm16 ∷ «Disp8_SP» ∷ «Disp20_A0» ∷ «Disp20_A1» ∷ Abs20 ∷ Disp8 ∷ RegList ∷ [])) tt (c .before .args .o) (c .match .keys1)
 
 returns-2 : tie.Need-returns-2
-unfolding is among fieldOf slots.turns
+unfolding sameName among fieldOf slots.turns
 returns-2 c = tested (λ o. false) (λ o. slots.turns o) (others (Imm4 ∷ Imm8 ∷ Imm16 ∷ «Disp8_SP» ∷ «Disp20_A0» ∷ «Disp20_A1» ∷ Abs20 ∷ Disp8 ∷ RegList ∷ [])) tt (c .before .args .o) (c .match .keys2)
 
 pub turns-spec : {M : Type 1} → statement M

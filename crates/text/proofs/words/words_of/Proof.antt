@@ -31,7 +31,7 @@ returns c =
     let x = one-of-two r (r .op0) (a .result .3) (a .ensures .2) (a .ensures .3) (r .op1) (b .result .3) (b .ensures .3) both0 (off-stack (r .op0) no) own0 (c .before .before .before .shown-number .ensures) in
     let y = one-of-two r (r .op1) (b .result .3) (b .ensures .2) (b .ensures .3) (r .op0) (a .result .3) (a .ensures .3) both1 (on-stack (r .op0) no) own1 (c .before .before .shown-number2 .ensures) in
     let z = third r (r .op2) (d .result .3) (d .ensures .2) (d .ensures .3) (c .shown-number3 .ensures) in
-    λ i. start .place ∷ start .length ∷ c .before .before .before .before .before .before .width-word .ensures i ∷ c .before .before .before .before .before .opcode-word .ensures i ∷ c .before .before .before .before .size-word .ensures i
+    λ i. start .first ∷ start .second ∷ c .before .before .before .before .before .before .width-word .ensures i ∷ c .before .before .before .before .before .opcode-word .ensures i ∷ c .before .before .before .before .size-word .ensures i
     ∷ a .ensures .0 i ∷ a .ensures .1 i ∷ x i ∷ b .ensures .0 i ∷ b .ensures .1 i ∷ y i ∷ d .ensures .0 i ∷ d .ensures .1 i ∷ z i ∷ []
 
 pub words-of-spec : {M : Type 1} → statement M
