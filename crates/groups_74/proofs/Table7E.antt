@@ -31,8 +31,8 @@ unfolding row row7E
 tables7E n = each (λ h. row7E h n ≡ table7E h n) 16 ((((((((((((((((tt, refl), refl), refl), refl), refl), refl), refl), refl), refl), refl), refl), refl), refl), refl), refl), refl)
 
 -- BMcnd's operand, as its name is read
-pub named : (bs : List ℕ) (s : Seen) (o : Opcode) {x : Answer} {a b : Operand} → x ≡ run (cond ∷ []) bs (bitFace o a) s → a ≡ b → x ≡ run (cond ∷ []) bs (bitFace o b) s
-named bs s o h e = h ∙ ap (λ y. run (cond ∷ []) bs (bitFace o y) s) e
+pub operand-named : (bs : List ℕ) (s : Seen) (o : Opcode) {x : Answer} {a b : Operand} → x ≡ run (cond ∷ []) bs (bitFace o a) s → a ≡ b → x ≡ run (cond ∷ []) bs (bitFace o b) s
+operand-named bs s o h e = h ∙ ap (λ y. run (cond ∷ []) bs (bitFace o y) s) e
 
 -- by the condition byte's low nibble
 abbrev pub conditionT : ℕ → Opcode

@@ -9,7 +9,7 @@ use Rattle.rows.proofs.Steps.{ends, goes, stops, done}
 use Rattle.rows.specs.Run.{runRow}
 use Rattle.rows.specs.Rows.{row}
 use Rattle.rows.specs.Row.{InvalidOpcode}
-use Rattle.groups_74.proofs.Table7E.{tables7E, named}
+use Rattle.groups_74.proofs.Table7E.{tables7E, operand-named}
 use Rattle.groups_74.proofs.op7E.decode_op7E.Statement.{statement}
 use Rattle.groups_74.proofs.op7E.decode_op7E.Tie as tie
 
@@ -19,7 +19,7 @@ returns c = rw (tables7E _ (c .before .before .before .args .b / 16) (omega (ari
 
 returns-2 : tie.Need-returns-2
 unfolding runRow row
-returns-2 c = rw (tables7E _ (c .before .before .before .before .before .before .before .before .before .before .args .b / 16) (omega (arith, c .before .before .before .before .before .before .before .before .before .before .fits .b)), lt-leb _ _ (c .before .before .before .before .before .before .before .before .if1 .left), c .before .if2 .taken) (goes _ _ _ _ (c .before .before .before .before .before .bit .ensures) _ (c .before .before .before .s .given .1) (named _ _ _ (c .conditional .ensures) (c .before .before .before .before .before .before .before .bit-name .ensures)))
+returns-2 c = rw (tables7E _ (c .before .before .before .before .before .before .before .before .before .before .args .b / 16) (omega (arith, c .before .before .before .before .before .before .before .before .before .before .fits .b)), lt-leb _ _ (c .before .before .before .before .before .before .before .before .if1 .left), c .before .if2 .taken) (goes _ _ _ _ (c .before .before .before .before .before .bit .ensures) _ (c .before .before .before .s .given .1) (operand-named _ _ _ (c .conditional .ensures) (c .before .before .before .before .before .before .before .bit-name .ensures)))
 
 returns-3 : tie.Need-returns-3
 unfolding runRow row
