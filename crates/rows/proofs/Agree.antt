@@ -1,7 +1,7 @@
 -- Rows and manual: where they say the same, where they differ, and where one of them is silent. One test over all codes, and its laws.
 -- Assumes nothing.
 use Prim.Native.Nat.{ℕ, _+_, _<_}
-use mathlib.Core.Path.{_≡_, refl, ap}
+use mathlib.Core.Path.{_≡_, refl, sym, ap, _∙_}
 use mathlib.Core.Bool.{Bool, true, false, not}
 use lib.Dec.{T, eqb, eqb→eq}
 use borrow.Author.Tests.{eq-eqb, ne-eqb}
@@ -10,23 +10,26 @@ use Rattle.tests.specs.Range.{upto}
 use Rattle.tests.proofs.Choice.{both-left, both-right}
 use Rattle.tests.proofs.Range.{upto-at}
 use Rattle.manual.specs.Meaning.{Meaning, Entry, meaning, empty}
+use Rattle.manual.specs.Bits as bits
 use Rattle.manual.specs.Bits.{conditionAt}
 use Rattle.manual.specs.Packed.{packed, packedCondition}
 use Rattle.manual.specs.Entries.{entryAt}
-use Rattle.manual.proofs.Packing.{over, injective}
+use Rattle.manual.proofs.Packing.{over, injective, injective-condition}
+use Rattle.record.specs.declared.Opcode.{Opcode}
 use Rattle.record.specs.Numbers.{opcodeNo}
 use Rattle.rows.specs.Row.{Condition, named, unnamed, Row}
 use Rattle.rows.specs.Codes.{condOf}
 use Rattle.rows.specs.Rows.{known, rowsOf, document01}
 use Rattle.rows.specs.Fate.{fate}
 use Rattle.rows.specs.All.{everyCode, countCodes}
-use Rattle.rows.specs.Agree.{Agrees, meaningOf, recorded, suffixFits}
+use Rattle.rows.specs.Agree.{recorded, sizeFits}
+use Rattle.rows.specs.Meant.{Agrees, meaningOf}
 use Rattle.rows.specs.Lists.{listedIn, starredRow, exchangedCode, starred, unmeantCode, refusedCode}
 use Rattle.rows.proofs.All.{every-code}
 
 -- the two parts of agreement, as tests
 sized : ℕ → ℕ → Row → Meaning → Bool
-sized a b r m = either (suffixFits (r .face .size) (r .face .width) (m .suffix)) (both (eqb a 0x7C) (eqb b 0xF3))
+sized a b r m = sizeFits a b (r .face .size) (r .face .width) (m .suffix)
 
 said : Row → Meaning → Bool
 said r m = eqb (packed (meaning (meaningOf r (m .suffix)))) (packed (meaning (recorded m)))
@@ -120,10 +123,10 @@ module _ (a b : ℕ) (k : known a ≡ true) (l : b < 256) where
   refused-here : (fate (row .reads) ≡ 0 → ⊥) → T (refusedRight a b (entryAt a b))
   refused-here f = refused-passed a b row _ (row .face .marked) (entryAt a b) (ne-eqb _ 0 f) here
 
-  -- an unmarked code to which the manual gives a meaning says the same in both
-  pub agreement : fate (row .reads) ≡ 0 → row .face .marked ≡ false → (m : Meaning) → entryAt a b ≡ meaning m → Agrees a b row m
+  -- the row of an unmarked code to which the manual gives a meaning says the same
+  pub row-agreement : fate (row .reads) ≡ 0 → row .face .marked ≡ false → (m : Meaning) → entryAt a b ≡ meaning m → Agrees a b row m
   unfolding unmarkedRight
-  agreement f u m e = same-agrees a b row m (both-left (same a b row m) _ (rw e at (both-right (not (starred a b)) _ (unmarked-here f u))))
+  row-agreement f u m e = same-agrees a b row m (both-left (same a b row m) _ (rw e at (both-right (not (starred a b)) _ (unmarked-here f u))))
 
   -- one without is among the 26, and none of these has a meaning
   pub unmeant : fate (row .reads) ≡ 0 → row .face .marked ≡ false → entryAt a b ≡ empty → T (listedIn unmeantCode a b)
@@ -180,3 +183,7 @@ all-conditions = tt
 pub conditions : (c : ℕ) → c < 256 → conditionNo (condOf c) ≡ packedCondition (conditionAt c)
 unfolding conditionRight
 conditions c l = eqb→eq _ _ (upto-at conditionRight 256 all-conditions c l)
+
+pub condition : (c : ℕ) → c < 256 → (o : Opcode) → condOf c ≡ named o → conditionAt c ≡ bits.named o
+unfolding conditionNo packedCondition
+condition c l o e = injective-condition (conditionAt c) (bits.named o) (sym (conditions c l) ∙ ap conditionNo e)

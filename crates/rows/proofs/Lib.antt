@@ -8,3 +8,6 @@ pub mod Counts
 pub mod Length
 pub mod Refusals
 pub mod Agree
+pub mod Bytes
+pub mod Spans
+pub mod Manual

@@ -1,10 +1,12 @@
--- What a row says, put as the manual puts it, and when the two say the same.
-use Prim.Native.Nat.{ℕ, _+_, _-_}
+-- Demand 2, the manual's part: when a decoded record is the instruction that the manual gives to its code, with the manual's numbers.
+use Prim.Native.Nat.{ℕ, _-_, _+_, _%_}
 use mathlib.Core.Bool.{Bool, true, false}
-use mathlib.Core.List.{List, [], _∷_}
+use mathlib.Core.List.{List}
 use mathlib.Core.Path.{_≡_}
 use lib.Dec.{T, eqb, ltb}
-use Rattle.record.specs.declared.Opcode.the-variants.{STC}
+use lib.ListN.{getD}
+use Rattle.record.specs.declared.Opcode.the-variants.{NOP, STC}
+use Rattle.record.specs.declared.Record.{Record}
 use Rattle.record.specs.declared.Size.{Size}
 use Rattle.record.specs.declared.Size.the-variants as size
 use Rattle.record.specs.declared.Width.{Width}
@@ -13,62 +15,29 @@ use Rattle.record.specs.declared.Operand.{Operand}
 use Rattle.record.specs.declared.Operand.the-variants.{Nothing, Imm4}
 use Rattle.tests.specs.Choice.{pick, both, either}
 use Rattle.record.specs.Numbers.{opcodeNo, widthNo}
-use Rattle.record.specs.Same.{sameName, Field, nowhere, wide, short, early, fieldOf, field0, field1}
+use Rattle.record.specs.Same.{sameName, key}
+use Rattle.manual.specs.Bits.{Condition, named, conditionAt}
 use Rattle.manual.specs.Meaning.{Suffix, none, B, W, L, A, Number, plus, minus, Spot, nothing, plain, behind, within, carry, counter, flag, Meaning}
 use Rattle.manual.specs.Packed.{suffixNo}
-use Rattle.rows.specs.Row.{disp, imm, imm20, Read, num, cond, stop, Row}
+use Rattle.rows.specs.Run.{bytes}
 
--- where a field's number stands: from which byte on, in how many bytes, none if it was not read
-pub record Span : Type 0 where
-  pub from : ℕ
-  pub count : ℕ
+-- the number in so many bytes of the instruction, low byte first; addresses of three bytes have 20 bits
+abbrev pub numberAt : List ℕ → ℕ → ℕ → ℕ
+numberAt bs p n = pick (eqb n 3) (bytes bs p n % 0x100000) (bytes bs p n)
 
-abbrev pub span : ℕ → ℕ → Span
-span a n = record { from = a; count = n }
-
--- where the three numbers stand, and the length so far
-pub record Spans : Type 0 where
-  pub wide : Span
-  pub short : Span
-  pub early : Span
-  pub length : ℕ
-
-abbrev pub spans : Span → Span → Span → ℕ → Spans
-spans w s e l = record { wide = w; short = s; early = e; length = l }
-
--- a later displacement takes dispabs, and the earlier one is kept in first
-unfoldable pub follow : List Read → Spans → Spans
-follow [] z = z
-follow (num (disp n) ∷ rs) z = follow rs (pick (eqb n 0) z (spans (z .wide) (span (z .length) n) (z .short) (z .length + n)))
-follow (num (imm n) ∷ rs) z = follow rs (spans (span (z .length) n) (z .short) (z .early) (z .length + n))
-follow (num imm20 ∷ rs) z = follow rs (spans (span (z .length) 3) (z .short) (z .early) (z .length + 3))
-follow (cond ∷ rs) z = follow rs (spans (z .wide) (z .short) (z .early) (z .length + 1))
-follow (stop e ∷ rs) z = z
-
-unfoldable pub spansOf : Row → Spans
-unfolding follow
-spansOf r = follow (r .reads) (spans (span 0 0) (span 0 0) (span 0 0) 2)
-
--- Imm4 keeps the raw code: 0 to 7 are 1 to 8, 8 to F are -1 to -8
+-- a number that is part of the code. Imm4 keeps the raw code: 0 to 7 are 1 to 8, 8 to F are -1 to -8
 abbrev pub inCode : Operand → ℕ → Number
 inCode a v = pick (sameName a Imm4) (pick (ltb v 8) (plus (v + 1)) (minus (v - 7))) (plus v)
 
--- an operand whose number a field holds; imm_wide may hold a number of the code
-abbrev pub spotIn : Operand → Span → Spot
-spotIn a s = behind a (s .from) (s .count)
-
-unfoldable pub spot : Operand → Field → Row → Spot
-unfolding sameName spansOf
-spot a nowhere r = pick (sameName a Nothing) nothing (plain a)
-spot a wide r = pick (eqb (spansOf r .wide .count) 0) (within a (inCode a (r .number))) (spotIn a (spansOf r .wide))
-spot a short r = spotIn a (spansOf r .short)
-spot a early r = spotIn a (spansOf r .early)
-
-abbrev pub spot0 : Row → Spot
-spot0 r = spot (r .face .op0) (field0 (r .face .op0) (r .face .op1)) r
-
-abbrev pub spot1 : Row → Spot
-spot1 r = spot (r .face .op1) (field1 (r .face .op0) (r .face .op1)) r
+-- an operand of the record and its number are the manual's; no operand of a record is C, PC or a flag
+abbrev pub Shows : List ℕ → Spot → Operand → ℕ → Type 0
+Shows bs nothing o v = o ≡ Nothing
+Shows bs (plain a) o v = o ≡ a
+Shows bs (behind a p n) o v = (o ≡ a) × (v ≡ numberAt bs p n)
+Shows bs (within a k) o v = (o ≡ a) × (inCode a v ≡ k)
+Shows bs carry o v = ⊥
+Shows bs counter o v = ⊥
+Shows bs (flag k) o v = ⊥
 
 -- the record has no operand for C
 abbrev pub held : Spot → Spot
@@ -80,17 +49,25 @@ held carry = nothing
 held counter = counter
 held (flag k) = flag k
 
--- a row as a meaning, beside the manual's suffix, which is judged apart
-unfoldable pub meaningOf : Row → Suffix → Meaning
-unfolding spot fieldOf
-meaningOf r s = record { mnemonic = r .face .opcode; suffix = s; op0 = spot0 r; op1 = spot1 r; length = spansOf r .length }
-
 -- a meaning as the record can hold it: without C, and with STC's operands the other way round
+abbrev pub turned : Meaning → Bool
+turned m = eqb (opcodeNo (m .mnemonic)) (opcodeNo STC)
+
 unfoldable pub recorded : Meaning → Meaning
-recorded m =
-    pick (eqb (opcodeNo (m .mnemonic)) (opcodeNo STC))
-    (record { mnemonic = m .mnemonic; suffix = m .suffix; op0 = held (m .op1); op1 = held (m .op0); length = m .length })
-    (record { mnemonic = m .mnemonic; suffix = m .suffix; op0 = held (m .op0); op1 = held (m .op1); length = m .length })
+recorded m = record {
+  mnemonic = m .mnemonic;
+  suffix = m .suffix;
+  op0 = held (pick (turned m) (m .op1) (m .op0));
+  op1 = held (pick (turned m) (m .op0) (m .op1));
+  length = m .length;
+}
+
+-- the mnemonic; where NOP holds the place of BMcnd's, the instruction's last byte names it
+abbrev pub conditional : Meaning → Bool
+conditional m = eqb (opcodeNo (m .mnemonic)) (opcodeNo NOP)
+
+abbrev pub mnemonicIn : List ℕ → Meaning → Condition
+mnemonicIn bs m = pick (conditional m) (conditionAt (getD bs (m .length - 1) 0)) (named (m .mnemonic))
 
 -- the size that the opcode carries is the manual's; where it carries none, a B or W of the manual is the width
 abbrev pub suffixFits : Size → Width → Suffix → Bool
@@ -103,7 +80,18 @@ suffixFits size.None w W = eqb (widthNo w) (widthNo width.W)
 suffixFits size.None w L = false
 suffixFits size.None w A = true
 
--- row and manual say the same of a code. EXTS.W R0, 7C F3, is the one whose width does not stand for the manual's size
-pub record Agrees (a b : ℕ) (r : Row) (m : Meaning) : Type 0 where
-  pub said : meaningOf r (m .suffix) ≡ recorded m
-  pub size : T (either (suffixFits (r .face .size) (r .face .width) (m .suffix)) (both (eqb a 0x7C) (eqb b 0xF3)))
+-- EXTS.W R0: the manual writes W, the opcode carries no size, and the width of first byte 7C is B
+abbrev pub otherWidth : ℕ → ℕ → Bool
+otherWidth a b = both (eqb a 0x7C) (eqb b 0xF3)
+
+abbrev pub sizeFits : ℕ → ℕ → Size → Width → Suffix → Bool
+sizeFits a b z w x = either (suffixFits z w x) (otherWidth a b)
+
+-- what was decoded from bytes, of which a and b are the first two, is the manual's instruction
+pub record AsManual (a b : ℕ) (bs : List ℕ) (m : Meaning) (r : Record) : Type 0 where
+  pub mnemonic : mnemonicIn bs m ≡ named (r .opcode)
+  pub size : T (sizeFits a b (r .size) (r .width) (m .suffix))
+  pub op0 : Shows bs (recorded m .op0) (r .op0) (key r .number0)
+  pub op1 : Shows bs (recorded m .op1) (r .op1) (key r .number1)
+  pub op2 : r .op2 ≡ Nothing
+  pub length : r .length ≡ m .length

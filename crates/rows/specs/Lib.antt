@@ -1,3 +1,4 @@
+pub mod Bytes
 pub mod Row
 pub mod Codes
 pub mod Rows
@@ -5,5 +6,7 @@ pub mod Run
 pub mod Fate
 pub mod All
 pub mod Bench
+pub mod Spans
 pub mod Agree
+pub mod Meant
 pub mod Lists

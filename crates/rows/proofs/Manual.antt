@@ -1,0 +1,161 @@
+-- Decoding and the manual: what an unmarked code that has a meaning decodes to is the manual's instruction, whatever bytes follow.
+-- Assumes nothing.
+use Prim.Native.Nat.{ℕ, _-_, _%_, _^_, _<_}
+use mathlib.Core.Path.{_≡_, refl, sym, ap, ap₂, subst, _∙_}
+use mathlib.Core.Bool.{Bool, true, false, not}
+use mathlib.Core.List.{List, [], _∷_}
+use native.Mathlib.Nat.{mod-eq-of-lt}
+use lib.Dec.{T, eqb, eqb→eq}
+use lib.ListN.{getD}
+use borrow.Author.Tests.{eqb-true}
+use Rattle.tests.specs.Choice.{pick, both}
+use Rattle.tests.proofs.Choice.{both-left, both-right}
+use Rattle.record.specs.declared.Opcode.{Opcode}
+use Rattle.record.specs.declared.Operand.{Operand}
+use Rattle.record.specs.declared.Operand.the-variants.{Nothing}
+use Rattle.record.specs.declared.Record.{Record}
+use Rattle.record.specs.Numbers.{opcodeNo, operandNo}
+use Rattle.record.specs.Same.{sameName, Field, nowhere, wide, short, early, field0, field1, valueOf, key}
+use Rattle.record.proofs.Apart.{operands-apart}
+use Rattle.manual.specs.Bits as bits
+use Rattle.manual.specs.Bits.{conditionAt}
+use Rattle.manual.specs.Meaning.{Spot, nothing, plain, Meaning, Entry, meaning, empty}
+use Rattle.manual.specs.Entries.{entryAt}
+use Rattle.rows.specs.Bytes.{Bytes}
+use Rattle.rows.specs.Row.{named, Row}
+use Rattle.rows.specs.Codes.{condOf}
+use Rattle.rows.specs.Rows.{known, rowsOf, document01}
+use Rattle.rows.specs.Run.{bytes, decodeRows}
+use Rattle.rows.specs.All.{everyCode}
+use Rattle.rows.specs.Spans.{Span, Source, code, read, Naming, byRow, byByte, Spans, spansOf, numberIn, wideIn, namedIn, MadeBy}
+use Rattle.rows.specs.Agree.{numberAt, Shows, inCode, recorded, conditional, mnemonicIn, sizeFits, AsManual}
+use Rattle.rows.specs.Meant.{spot, spotWide, meaningOf, Agrees}
+use Rattle.rows.proofs.All.{every-code}
+use Rattle.rows.proofs.Agree.{row-agreement, condition}
+use Rattle.rows.proofs.Bytes.{at-bytes, bytes-small}
+use Rattle.rows.proofs.Spans.{accepted}
+
+-- what document 01's spans are: three bytes are read into imm_wide alone, and kept to 20 bits; other numbers are kept whole
+bound : ℕ → ℕ
+bound n = pick (eqb n 3) 0x100000 (256 ^ n)
+
+plainSource : Source → Bool
+plainSource code = true
+plainSource (read s b) = eqb b (bound (s .count))
+
+plainSpan : Span → Bool
+plainSpan s = not (eqb (s .count) 3)
+
+-- a condition byte is the last, and only where the manual has BMcnd
+plainNaming : Naming → Entry → Bool
+plainNaming byRow (meaning m) = not (conditional m)
+plainNaming (byByte p) (meaning m) = both (conditional m) (eqb p (m .length - 1))
+plainNaming n empty = true
+
+plainSpans : Spans → Entry → Bool
+plainSpans z e = both (both (plainSource (z .wide)) (plainNaming (z .naming) e)) (both (plainSpan (z .short)) (plainSpan (z .early)))
+
+plainAt : ℕ → ℕ → Bool
+plainAt a b = plainSpans (spansOf (document01 .rowAt a b)) (entryAt a b)
+
+all-plain : T (everyCode plainAt)
+unfolding everyCode plainAt plainSpans plainSource plainSpan plainNaming bound spansOf rowsOf entryAt
+all-plain = tt
+
+record Plain (z : Spans) (e : Entry) : Type 0 where
+  wide : T (plainSource (z .wide))
+  naming : T (plainNaming (z .naming) e)
+  short : T (plainSpan (z .short))
+  early : T (plainSpan (z .early))
+
+passed : (z : Spans) (e : Entry) → T (plainSpans z e) → Plain z e
+unfolding plainSpans
+passed z e t =
+    let x = both-left (both (plainSource (z .wide)) (plainNaming (z .naming) e)) (both (plainSpan (z .short)) (plainSpan (z .early))) t in
+    let y = both-right (both (plainSource (z .wide)) (plainNaming (z .naming) e)) (both (plainSpan (z .short)) (plainSpan (z .early))) t in
+    record {
+      wide = both-left (plainSource (z .wide)) (plainNaming (z .naming) e) x;
+      naming = both-right (plainSource (z .wide)) (plainNaming (z .naming) e) x;
+      short = both-left (plainSpan (z .short)) (plainSpan (z .early)) y;
+      early = both-right (plainSpan (z .short)) (plainSpan (z .early)) y;
+    }
+
+plain-at : (a b : ℕ) → known a ≡ true → b < 256 → Plain (spansOf (document01 .rowAt a b)) (entryAt a b)
+unfolding plainAt
+plain-at a b k l = passed _ _ (every-code plainAt all-plain b l a k)
+
+-- the number at a span is the manual's: three bytes are masked, and others are small enough
+unmasked : (bs : List ℕ) (s : Span) → T (plainSpan s) → numberIn bs s ≡ numberAt bs (s .from) (s .count)
+unfolding plainSpan
+unmasked bs s = by (eqb (s .count) 3)
+  where
+    by : (e : Bool) → T (not e) → numberIn bs s ≡ pick e (numberIn bs s % 0x100000) (numberIn bs s)
+    by true t = absurd t
+    by false t = refl
+
+masked : (bs : List ℕ) → Bytes bs → (s : Span) → numberIn bs s % bound (s .count) ≡ numberAt bs (s .from) (s .count)
+unfolding bound
+masked bs h s = by (eqb (s .count) 3)
+  where
+    by : (e : Bool) → numberIn bs s % pick e 0x100000 (256 ^ s .count) ≡ pick e (numberIn bs s % 0x100000) (numberIn bs s)
+    by true = refl
+    by false = mod-eq-of-lt (bytes-small (s .count) (s .from) bs h)
+
+-- what a row made of bytes, and what the row's spots show
+module _ (w : Row) (bs : List ℕ) (h : Bytes bs) (r : Record) (made : MadeBy w bs r) (e : Entry) (plainly : Plain (spansOf w) e) where
+  wide-shows : (a : Operand) (q : Source) → T (plainSource q) → r .«imm_wide» ≡ wideIn bs (w .number) q → Shows bs (spotWide a (w .number) q) a (r .«imm_wide»)
+  unfolding plainSource
+  wide-shows a code t k = (refl, ap (inCode a) k)
+  wide-shows a (read s b) t k = (refl, k ∙ ap (λ x. numberIn bs s % x) (eqb→eq b (bound (s .count)) t) ∙ masked bs h s)
+
+  shows : (a : Operand) (x : Field) → Shows bs (spot a x w) a (valueOf x r)
+  unfolding spot sameName
+  shows a nowhere = by (sameName a Nothing) refl
+    where
+      by : (b : Bool) → sameName a Nothing ≡ b → Shows bs (pick b nothing (plain a)) a 0
+      by true k = operands-apart a Nothing (eqb-true _ _ k)
+      by false k = refl
+  shows a wide = wide-shows a (spansOf w .wide) (plainly .wide) (made .«imm_wide»)
+  shows a short = (refl, made .dispabs ∙ unmasked bs (spansOf w .short) (plainly .short))
+  shows a early = (refl, made .first ∙ unmasked bs (spansOf w .early) (plainly .early))
+
+  -- as the record names its operands
+  shown : (s : Spot) (a o : Operand) (x y : Field) → spot a x w ≡ s → o ≡ a → y ≡ x → Shows bs s o (valueOf y r)
+  shown s a o x y p q f = subst (λ v. Shows bs s v (valueOf y r)) (sym q) (subst (λ v. Shows bs s a (valueOf v r)) (sym f) (subst (λ v. Shows bs v a (valueOf x r)) p (shows a x)))
+
+-- the mnemonic is the row's, or the condition byte's
+module _ (bs : List ℕ) (h : Bytes bs) (m : Meaning) (p : Opcode) where
+  mnemonic : (n : Naming) → T (plainNaming n (meaning m)) → namedIn bs (m .mnemonic) n ≡ named p → mnemonicIn bs m ≡ bits.named p
+  unfolding plainNaming
+  mnemonic byRow = by (conditional m)
+    where
+      by : (c : Bool) → T (not c) → named (m .mnemonic) ≡ named p → pick c (conditionAt (getD bs (m .length - 1) 0)) (bits.named (m .mnemonic)) ≡ bits.named p
+      by true t k = absurd t
+      by false t k = cc
+  mnemonic (byByte q) = by (conditional m)
+    where
+      by : (c : Bool) → T (both c (eqb q (m .length - 1))) → condOf (getD bs q 0) ≡ named p → pick c (conditionAt (getD bs (m .length - 1) 0)) (bits.named (m .mnemonic)) ≡ bits.named p
+      by true t k = condition _ (at-bytes (m .length - 1) bs h) p (ap (λ x. condOf (getD bs x 0)) (sym (eqb→eq q _ t)) ∙ k)
+      by false t k = absurd t
+
+module _ (a b : ℕ) (bs : List ℕ) (h : Bytes (a ∷ b ∷ bs)) where
+  pub agreement : decodeRows (a ∷ b ∷ bs) .refusal ≡ 0 → decodeRows (a ∷ b ∷ bs) .inst .marked ≡ false
+      → (m : Meaning) → entryAt a b ≡ meaning m → AsManual a b (a ∷ b ∷ bs) m (decodeRows (a ∷ b ∷ bs) .inst)
+  unfolding meaningOf recorded
+  agreement z u m e =
+      let all = a ∷ b ∷ bs in
+      let w = document01 .rowAt a b in
+      let r = decodeRows all .inst in
+      let x = accepted document01 a b bs z in
+      let made = x .made in
+      let plainly = plain-at a b (x .known) (h .1 .0) in
+      let g = row-agreement a b (x .known) (h .1 .0) (x .alive) (sym (made .marked) ∙ u) m e in
+      let named-so : T (plainNaming (spansOf w .naming) (meaning m)) = subst (λ y. T (plainNaming (spansOf w .naming) y)) e (plainly .naming) in
+      record {
+        mnemonic = mnemonic all h m (r .opcode) (spansOf w .naming) named-so (ap (λ y. namedIn all (y .mnemonic) (spansOf w .naming)) (sym (g .said)) ∙ made .opcode);
+        size = subst (λ y. T (sizeFits a b y (r .width) (m .suffix))) (sym (made .size)) (subst (λ y. T (sizeFits a b (w .face .size) y (m .suffix))) (sym (made .width)) (g .size));
+        op0 = shown w all h r made (entryAt a b) plainly _ _ _ _ _ (ap (λ y. y .op0) (g .said)) (made .op0) (ap₂ field0 (made .op0) (made .op1));
+        op1 = shown w all h r made (entryAt a b) plainly _ _ _ _ _ (ap (λ y. y .op1) (g .said)) (made .op1) (ap₂ field1 (made .op0) (made .op1));
+        op2 = made .op2;
+        length = made .length ∙ ap (λ y. y .length) (g .said);
+      }

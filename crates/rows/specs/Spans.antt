@@ -1,0 +1,96 @@
+-- Where a row's numbers stand in the bytes of the instruction, and how long it is: document 01's reads, by place instead of by value.
+use Prim.Native.Nat.{ℕ, _+_, _^_, _%_}
+use mathlib.Core.Path.{_≡_}
+use mathlib.Core.Bool.{Bool}
+use mathlib.Core.List.{List, [], _∷_}
+use lib.Dec.{eqb}
+use lib.ListN.{getD}
+use Rattle.tests.specs.Choice.{pick}
+use Rattle.record.specs.declared.Opcode.{Opcode}
+use Rattle.record.specs.declared.Operand.the-variants.{Nothing}
+use Rattle.record.specs.declared.Record.{Record}
+use Rattle.rows.specs.Row.{disp, imm, imm20, Read, num, cond, stop, Condition, named, Face, Row}
+use Rattle.rows.specs.Codes.{condOf}
+use Rattle.rows.specs.Run.{bytes, twentyBits}
+
+-- from which byte on, in how many bytes; no bytes if nothing was read
+pub record Span : Type 0 where
+  pub from : ℕ
+  pub count : ℕ
+
+abbrev pub span : ℕ → ℕ → Span
+span a n = record { from = a; count = n }
+
+-- the number in imm_wide is part of the code, or was read, and is kept below a bound
+pub data Source : Type 0 where
+  code : Source
+  read : Span → ℕ → Source
+
+-- the row names the opcode, or the condition byte at a place does
+pub data Naming : Type 0 where
+  byRow : Naming
+  byByte : ℕ → Naming
+
+-- where imm_wide, dispabs and first come from, what names the opcode, and the length
+pub record Spans : Type 0 where
+  pub wide : Source
+  pub short : Span
+  pub early : Span
+  pub naming : Naming
+  pub length : ℕ
+
+abbrev pub spans : Source → Span → Span → Naming → ℕ → Spans
+spans w s e o l = record { wide = w; short = s; early = e; naming = o; length = l }
+
+-- a later displacement takes dispabs, and the earlier one is kept in first
+abbrev pub dispNext : ℕ → Spans → Spans
+dispNext n z = spans (z .wide) (span (z .length) n) (z .short) (z .naming) (z .length + n)
+
+abbrev pub immNext : ℕ → ℕ → Spans → Spans
+immNext n bound z = spans (read (span (z .length) n) bound) (z .short) (z .early) (z .naming) (z .length + n)
+
+abbrev pub condNext : Spans → Spans
+condNext z = spans (z .wide) (z .short) (z .early) (byByte (z .length)) (z .length + 1)
+
+unfoldable pub follow : List Read → Spans → Spans
+follow [] z = z
+follow (num (disp n) ∷ rs) z = follow rs (pick (eqb n 0) z (dispNext n z))
+follow (num (imm n) ∷ rs) z = follow rs (immNext n (256 ^ n) z)
+follow (num imm20 ∷ rs) z = follow rs (immNext 3 twentyBits z)
+follow (cond ∷ rs) z = follow rs (condNext z)
+follow (stop e ∷ rs) z = z
+
+-- two bytes are the code
+unfoldable pub spansOf : Row → Spans
+unfolding follow
+spansOf r = follow (r .reads) (spans code (span 0 0) (span 0 0) byRow 2)
+
+-- the number that stands at a span, low byte first
+abbrev pub numberIn : List ℕ → Span → ℕ
+numberIn bs s = bytes bs (s .from) (s .count)
+
+abbrev pub wideIn : List ℕ → ℕ → Source → ℕ
+wideIn bs number code = number
+wideIn bs number (read s bound) = numberIn bs s % bound
+
+abbrev pub namedIn : List ℕ → Opcode → Naming → Condition
+namedIn bs o byRow = named o
+namedIn bs o (byByte p) = condOf (getD bs p 0)
+
+-- a record made of bytes: the names of a face, whose opcode is o unless a byte names another, and the numbers that stand at the spans
+pub record Made (bs : List ℕ) (number : ℕ) (o : Opcode) (f : Face) (z : Spans) (r : Record) : Type 0 where
+  pub length : r .length ≡ z .length
+  pub «imm_wide» : r .«imm_wide» ≡ wideIn bs number (z .wide)
+  pub dispabs : r .dispabs ≡ numberIn bs (z .short)
+  pub first : r .first ≡ numberIn bs (z .early)
+  pub opcode : namedIn bs o (z .naming) ≡ named (r .opcode)
+  pub size : r .size ≡ f .size
+  pub width : r .width ≡ f .width
+  pub op0 : r .op0 ≡ f .op0
+  pub op1 : r .op1 ≡ f .op1
+  pub op2 : r .op2 ≡ Nothing
+  pub marked : r .marked ≡ f .marked
+
+-- by a row
+abbrev pub MadeBy : Row → List ℕ → Record → Type 0
+MadeBy w bs r = Made bs (w .number) (w .face .opcode) (w .face) (spansOf w) r
