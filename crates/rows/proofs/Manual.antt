@@ -3,7 +3,7 @@
 use Prim.Native.Nat.{ℕ, _-_, _%_, _^_, _<_}
 use mathlib.Core.Path.{_≡_, refl, sym, ap, ap₂, subst, _∙_}
 use mathlib.Core.Bool.{Bool, true, false, not}
-use mathlib.Core.List.{List, [], _∷_}
+use mathlib.Core.List.{List, _∷_}
 use native.Mathlib.Nat.{mod-eq-of-lt}
 use lib.Dec.{T, eqb, eqb→eq}
 use lib.ListN.{getD}
@@ -14,8 +14,7 @@ use Rattle.record.specs.declared.Opcode.{Opcode}
 use Rattle.record.specs.declared.Operand.{Operand}
 use Rattle.record.specs.declared.Operand.the-variants.{Nothing}
 use Rattle.record.specs.declared.Record.{Record}
-use Rattle.record.specs.Numbers.{opcodeNo, operandNo}
-use Rattle.record.specs.Same.{sameName, Field, nowhere, wide, short, early, field0, field1, valueOf, key}
+use Rattle.record.specs.Same.{sameName, Field, nowhere, wide, short, early, field0, field1, valueOf}
 use Rattle.record.proofs.Apart.{operands-apart}
 use Rattle.manual.specs.Bits as bits
 use Rattle.manual.specs.Bits.{conditionAt}
@@ -25,11 +24,11 @@ use Rattle.rows.specs.Bytes.{Bytes}
 use Rattle.rows.specs.Row.{named, Row}
 use Rattle.rows.specs.Codes.{condOf}
 use Rattle.rows.specs.Rows.{known, rowsOf, document01}
-use Rattle.rows.specs.Run.{bytes, decodeRows}
+use Rattle.rows.specs.Run.{decodeRows}
 use Rattle.rows.specs.All.{everyCode}
 use Rattle.rows.specs.Spans.{Span, Source, code, read, Naming, byRow, byByte, Spans, spansOf, numberIn, wideIn, namedIn, MadeBy}
 use Rattle.rows.specs.Agree.{numberAt, Shows, inCode, recorded, conditional, mnemonicIn, sizeFits, AsManual}
-use Rattle.rows.specs.Meant.{spot, spotWide, meaningOf, Agrees}
+use Rattle.rows.specs.Meant.{spot, spotWide, meaningOf}
 use Rattle.rows.proofs.All.{every-code}
 use Rattle.rows.proofs.Agree.{row-agreement, condition}
 use Rattle.rows.proofs.Bytes.{at-bytes, bytes-small}

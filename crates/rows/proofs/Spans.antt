@@ -1,16 +1,14 @@
 -- The two readings of a row agree: what decoding accepts has the numbers that stand at the row's spans, and their length. Of any row table.
 -- Assumes nothing.
 use Prim.Native.Nat.{ℕ, _+_, _%_, _^_}
-use mathlib.Core.Path.{_≡_, refl, sym, ap, subst, _∙_}
+use mathlib.Core.Path.{_≡_, refl, sym, ap, _∙_}
 use mathlib.Core.Bool.{Bool, true, false}
 use mathlib.Core.List.{List, [], _∷_}
 use native.Mathlib.Omega.{arith}
 use lib.ListN.{length, getD}
 use lib.Dec.{eqb, leb, ltb}
 use Rattle.tests.specs.Choice.{pick}
-use Rattle.record.specs.declared.Answer.{Answer}
 use Rattle.record.specs.declared.Opcode.{Opcode}
-use Rattle.record.specs.declared.Operand.the-variants.{Nothing}
 use Rattle.record.specs.declared.Record.{Record}
 use Rattle.rows.specs.declared.Seen.{Seen}
 use Rattle.rows.specs.declared.Got.the-variants.{On, Short}
@@ -18,7 +16,7 @@ use Rattle.rows.specs.Row.{disp, imm, imm20, InvalidOpcode, InvalidOpera
 use Rattle.rows.specs.Codes.{condOf}
 use Rattle.rows.specs.Fate.{fate}
 use Rattle.rows.specs.Run.{bytes, twentyBits, readDisp, readImm, withDisp, withImm, andThen, judged, past, renamed, refusal, run, runRow, begun, decodeBy}
-use Rattle.rows.specs.Spans.{Span, Spans, Source, Naming, follow, spansOf, dispNext, immNext, condNext, numberIn, wideIn, namedIn, Made, MadeBy}
+use Rattle.rows.specs.Spans.{Spans, follow, spansOf, dispNext, immNext, condNext, numberIn, wideIn, namedIn, Made, MadeBy}
 
 -- the numbers read so far stand at the spans so far; the last naming is the opcode's
 module _ (bs : List ℕ) (number : ℕ) (o : Opcode) where

@@ -1,7 +1,6 @@
 -- Where a row's numbers stand in the bytes of the instruction, and how long it is: document 01's reads, by place instead of by value.
 use Prim.Native.Nat.{ℕ, _+_, _^_, _%_}
 use mathlib.Core.Path.{_≡_}
-use mathlib.Core.Bool.{Bool}
 use mathlib.Core.List.{List, [], _∷_}
 use lib.Dec.{eqb}
 use lib.ListN.{getD}

@@ -15,7 +15,7 @@ use Rattle.record.specs.Numbers.{opcodeNo}
 use Rattle.record.proofs.Apart.{opcodes-apart}
 use Rattle.rows.specs.Row.{Condition, named, unnamed}
 use Rattle.rows.specs.Codes.{condOf}
-use Rattle.shortest.specs.Says.{Bytes}
+use Rattle.rows.specs.Bytes.{Bytes}
 use Rattle.shortest.proofs.Bools.{so}
 use Rattle.shortest.specs.Search.{means, seek, condBytes, condByte}
 

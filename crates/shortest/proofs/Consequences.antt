@@ -9,16 +9,17 @@ use lib.ListN.{length, take}
 use lib.Seq.{length-take-le, getD-take}
 use Rattle.record.specs.declared.Record.{Record}
 use Rattle.record.specs.Same.{Same, key}
+use Rattle.rows.specs.Bytes.{Bytes}
 use Rattle.rows.specs.Row.{Table}
 use Rattle.rows.specs.Rows.{document01}
 use Rattle.rows.specs.Run.{decodeBy, decodeRows}
+use Rattle.rows.proofs.Bytes.{at-bytes}
 use Rattle.rows.proofs.Taken.{counted}
 use Rattle.rows.proofs.Behind.{behind}
 use Rattle.rows.proofs.Length.{two-to-seven}
-use Rattle.shortest.specs.Says.{Bytes, Says, Best, Found, bytes, none, Right}
+use Rattle.shortest.specs.Says.{Says, Best, Found, bytes, none, Right}
 use Rattle.shortest.specs.Direct.{taken}
 use Rattle.shortest.specs.Choose.{choose, encoded}
-use Rattle.shortest.proofs.Runs.{at-bytes}
 use Rattle.shortest.proofs.Chosen.{chosen}
 
 take-bytes : (k : ℕ) (bs : List ℕ) → Bytes bs → Bytes (take k bs)

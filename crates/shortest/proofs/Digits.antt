@@ -5,12 +5,12 @@ use mathlib.Core.Path.{_≡_, refl, sym, ap, ap₂, _∙_}
 use mathlib.Core.List.{List, [], _∷_, _++_}
 use native.Mathlib.Omega.{arith}
 use native.Mathlib.Nat.{div-lt-iff-lt-mul, pow-suc}
-use native.Mathlib.Numerals.{add-one}
 use lib.ListN.{length, drop, getD}
 use lib.Seq.{drop-cons}
 use Rattle.rows.specs.Run.{bytes}
+use Rattle.rows.proofs.Bytes.{one-more}
 use Rattle.shortest.specs.Digits.{Grab, some, short, push, grab, digits}
-use Rattle.shortest.specs.Says.{Bytes}
+use Rattle.rows.specs.Bytes.{Bytes}
 
 -- what was read is spelled by the bytes that it was read from
 pub spelled : (n : ℕ) (bs : List ℕ) (v : ℕ) (rest : List ℕ) → Bytes bs → grab n bs ≡ some v rest → bs ≡ digits n v ++ rest
@@ -35,10 +35,6 @@ read-back (suc n) v rest h =
     let g : v < 256 ^ n * 256 = rw pow-suc at h in
     let q : v / 256 < 256 ^ n = div-lt-iff-lt-mul {k = 256} {x = v} {y = 256 ^ n} (omega arith) .1 g in
     ap (push (v % 256)) (read-back n (v / 256) rest q) ∙ ap (λ x. some x rest) (omega arith)
-
-pub one-more : (bs : List ℕ) (p n : ℕ) → bytes bs p (suc n) ≡ getD bs p 0 + 256 * bytes bs (suc p) n
-one-more bs p zero = omega arith
-one-more bs p (suc n) = ap (λ q. getD bs p 0 + 256 * bytes bs q (suc n)) (add-one p)
 
 pub grab-bytes : (n : ℕ) (bs : List ℕ) (p : ℕ) → p + n ≤ length bs → grab n (drop p bs) ≡ some (bytes bs p n) (drop (p + n) bs)
 grab-bytes zero bs p h = let e : p ≡ p + 0 = omega arith in ap (λ q. some 0 (drop q bs)) e

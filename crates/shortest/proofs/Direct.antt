@@ -11,11 +11,12 @@ use Rattle.tests.specs.Choice.{pick}
 use Rattle.record.specs.declared.Record.{Record}
 use Rattle.record.specs.declared.Key.{Key}
 use Rattle.record.specs.Same.{key}
+use Rattle.rows.specs.Bytes.{Bytes}
 use Rattle.rows.specs.Row.{disp, imm, imm20, Read, num, cond, stop, Row, Table}
 use Rattle.rows.specs.Fate.{fate, reach}
 use Rattle.rows.specs.Run.{decodeBy}
 use Rattle.shortest.specs.Digits.{digits}
-use Rattle.shortest.specs.Says.{Bytes, First, Ahead, Says, bytes, none, Right}
+use Rattle.shortest.specs.Says.{First, Ahead, Says, bytes, none, Right}
 use Rattle.shortest.specs.Search.{condByte, spell, aim, plain, agrees, bytesBy}
 use Rattle.shortest.specs.Can.{can}
 use Rattle.shortest.specs.Direct.{Choice, code, nothing, rank, able, taken, Beats}

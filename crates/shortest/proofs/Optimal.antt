@@ -15,10 +15,11 @@ use Rattle.record.specs.Numbers.{opcodeNo, sizeNo, widthNo, operandNo}
 use Rattle.record.specs.declared.Key.{Key}
 use Rattle.record.specs.Same.{key}
 use Rattle.record.proofs.Apart.{opcodes-apart, sizes-apart, widths-apart, operands-apart}
+use Rattle.rows.specs.Bytes.{Bytes}
 use Rattle.rows.specs.Row.{disp, imm, imm20, Read, num, cond, stop, Table}
 use Rattle.rows.specs.Run.{runRow, begun, decodeBy, refusal}
 use Rattle.shortest.specs.Digits.{digits}
-use Rattle.shortest.specs.Says.{Bytes, Ahead, Says, Found, bytes, none, Right}
+use Rattle.shortest.specs.Says.{Ahead, Says, Found, bytes, none, Right}
 use Rattle.shortest.specs.Search.{disps, imms, spell, aim, other, plain, alike, agrees, aheadb, better, bytesBy, leastOf, try, best}
 use Rattle.shortest.proofs.Bools.{both-true, both-so}
 use Rattle.shortest.proofs.Runs.{good, Runs, from-run, to-run}

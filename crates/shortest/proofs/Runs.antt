@@ -1,11 +1,10 @@
 -- A row's reads as a relation: the bytes left to read, the names and numbers before, the record after.
 -- Assumes nothing.
-use Prim.Native.Nat.{ℕ, zero, suc, _+_, _*_, _-_, _/_, _%_, _^_, _≤_, _<_}
+use Prim.Native.Nat.{ℕ, zero, suc, _+_, _-_, _/_, _%_, _^_, _≤_, _<_}
 use mathlib.Core.Path.{_≡_, refl, sym, ap, _∙_}
 use mathlib.Core.Bool.{Bool, true, false}
 use mathlib.Core.List.{List, [], _∷_, _++_}
 use native.Mathlib.Omega.{arith}
-use native.Mathlib.Nat.{pow-suc}
 use lib.ListN.{length, drop, getD, length-drop, length-append}
 use lib.Dec.{leb, ltb, eqb·suc-zero}
 use borrow.Author.Tests.{leb-true, ltb-true, le-leb, lt-ltb}
@@ -18,9 +17,10 @@ use Rattle.rows.specs.declared.Got.the-variants.{On, Short}
 use Rattle.rows.specs.Row.{disp, imm, imm20, Refusal, InvalidOpcode, InvalidOperand, refusalNo, Read, num, cond, stop, Condition, named, unnamed, Face}
 use Rattle.rows.specs.Codes.{condOf}
 use Rattle.rows.specs.Run.{bytes, withDisp, withImm, readDisp, readImm, twentyBits, accepted, refusal, andThen, past, renamed, judged, run}
+use Rattle.rows.proofs.Bytes.{bytes-small}
 use Rattle.shortest.specs.Digits.{some, grab, digits}
-use Rattle.shortest.specs.Says.{Bytes}
-use Rattle.shortest.proofs.Digits.{spelled, read-back, grab-bytes, one-more}
+use Rattle.rows.specs.Bytes.{Bytes}
+use Rattle.shortest.proofs.Digits.{spelled, read-back, grab-bytes}
 
 -- the record that is made at the end, and the answer that it is accepted with
 abbrev pub made : Face → Seen → Record
@@ -46,21 +46,6 @@ drop-bytes : (p : ℕ) (bs : List ℕ) → Bytes bs → Bytes (drop p bs)
 drop-bytes zero bs h = h
 drop-bytes (suc p) [] h = tt
 drop-bytes (suc p) (b ∷ bs) h = drop-bytes p bs (h .1)
-
-pub at-bytes : (p : ℕ) (bs : List ℕ) → Bytes bs → getD bs p 0 < 256
-at-bytes zero [] h = omega arith
-at-bytes (suc p) [] h = omega arith
-at-bytes zero (b ∷ bs) h = h .0
-at-bytes (suc p) (b ∷ bs) h = at-bytes p bs (h .1)
-
-bytes-small : (n p : ℕ) (bs : List ℕ) → Bytes bs → bytes bs p n < 256 ^ n
-bytes-small zero p bs h = omega arith
-bytes-small (suc n) p bs h =
-    let k : 256 ^ suc n ≡ 256 ^ n * 256 = pow-suc 256 n in
-    let e = one-more bs p n in
-    let i = bytes-small n (suc p) bs h in
-    let j = at-bytes p bs h in
-    omega arith
 
 -- bytes that are there come off
 off : (n p : ℕ) (bs : List ℕ) → Bytes bs → p + n ≤ length bs → (P : ℕ → List ℕ → Type 0) → P (bytes bs p n) (drop (p + n) bs) → Off n (drop p bs) P

@@ -1,19 +1,15 @@
 -- What an encoder must find: of all byte strings that decode by an unmarked row to the same instruction, the shortest, and of these the first in byte order.
 -- Over any table of rows, and over byte strings of any length.
-use Prim.Native.Nat.{ℕ, _≤_, _<_}
+use Prim.Native.Nat.{ℕ, _≤_}
 use mathlib.Core.Path.{_≡_}
 use mathlib.Core.Bool.{false}
 use mathlib.Core.List.{List, [], _∷_}
 use lib.ListN.{length}
 use Rattle.record.specs.declared.Record.{Record}
 use Rattle.record.specs.Same.{Same}
+use Rattle.rows.specs.Bytes.{Bytes}
 use Rattle.rows.specs.Row.{Table}
 use Rattle.rows.specs.Run.{decodeBy}
-
--- every element is a byte
-abbrev pub Bytes : List ℕ → Type 0
-Bytes [] = Unit {0}
-Bytes (b ∷ bs) = (b < 256) × Bytes bs
 
 -- byte order, of lists that are as long as each other: xs is ys, or comes before it
 abbrev pub First : List ℕ → List ℕ → Type 0
