@@ -36,8 +36,8 @@ module _ (reading : List ℕ → Answer) (rule : ℕ → Answer → Onward) wher
   abbrev pub turn : ℕ → ℕ → List ℕ → Answer → (ℕ → ℕ → List ℕ → End) → End
   turn p n ss x k = pick (eqb (x .refusal) 0) (k (p + x .taken) (n + 1) (set ss n p)) (refusedAt (rule p x) (x .refusal) n p ss (λ q. k q n ss))
 
-  -- from place p, with n places kept in ss, decoding at most so many times more; the end is no refusal
-  -- as many turns as bytes do not run out where a refusal stops, since an accepted instruction takes a byte at least (proofs/Enough)
+  -- from place p, with n places kept in ss, decoding at most so many times more; the end is no refusal. By document 01's reading and
+  -- rule a turn for each byte left is enough, so turns never run out: `enough` of proofs/Enough
   unfoldable pub go : List ℕ → ℕ → ℕ → ℕ → List ℕ → End
   go bs zero p n ss = ended 0 n p ss
   go bs (suc k) p n ss = pick (leb (length bs) p) (ended 0 n p ss) (turn p n ss (reading (drop p bs)) (λ q m ts. go bs k q m ts))
