@@ -7,7 +7,7 @@ pub struct Swept {
     pub place: usize,
 }
 
-// Where decoding stopped, and the refusal there: 0 at the image's end.
+// What the loop breaks out with: the stopping place, and the refusal there.
 struct Stopped {
     refusal: u8,
     place: usize,
