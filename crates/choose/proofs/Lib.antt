@@ -1,4 +1,3 @@
 pub mod Whole
 pub mod Placed
 pub mod OrImm
-pub mod Outcomes

@@ -9,7 +9,7 @@ use lib.ListN.{length, drop, set, length-append, length-drop}
 use lib.Seq.{append-snoc, drop-cons, set-append-seam}
 use borrow.Author.Tests.{le-leb}
 use Rattle.text.specs.declared.Written.{Written}
-use Rattle.text.specs.Left.{over, left}
+use Rattle.text.specs.Left.{over, left, Writes}
 use Rattle.pages.specs.Listing.{ended}
 
 over-length : (xs bs : List ℕ) → length xs ≤ length bs → length (over xs bs) ≡ length bs
@@ -22,14 +22,14 @@ newline xs bs h =
     ∙ sym (append-snoc xs 10 (drop (suc (length xs)) bs)) ∙ ap (λ k. ended xs ++ drop k bs) (sym n)
 
 -- what `text` says of a line that has room, and the newline behind it
-module _ (xs bs : List ℕ) (h : length xs < length bs) {w : Written} {ys : List ℕ} (said : (w ≡ left xs bs .written) × (ys ≡ left xs bs .buffer)) where
+module _ (xs bs : List ℕ) (h : length xs < length bs) {w : Written} {ys : List ℕ} (said : Writes xs bs w ys) where
   long : w .length ≡ length xs
   unfolding left
-  long = ap (λ (v : Written). v .length) (said .0) ∙ rw (le-leb (length xs) (length bs) (omega arith))
+  long = ap (λ (v : Written). v .length) (said .returned) ∙ rw (le-leb (length xs) (length bs) (omega arith))
 
   there : ys ≡ over xs bs
   unfolding left
-  there = said .1 ∙ rw (le-leb (length xs) (length bs) (omega arith))
+  there = said .kept ∙ rw (le-leb (length xs) (length bs) (omega arith))
 
   pub room : w .length < length ys
   room = omega (arith, long, ap length there, over-length xs bs (omega arith))

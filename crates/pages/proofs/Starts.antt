@@ -31,7 +31,7 @@ module _ (bs : List ℕ) where
       ap (λ k. linesOf bs (take k (set ss n p)) ++ rest) (add-one n) ∙ ap (λ z. linesOf bs z ++ rest) (take-suc-set ss n p (omega arith))
       ∙ ap (λ z. z ++ rest) (lines-more (take n ss) p) ∙ append-assoc (linesOf bs (take n ss)) (ended (lineOf p (decodeRows (drop p bs) .inst))) rest
 
-  shown : (k p n : ℕ) (ss : List ℕ) → n + k ≤ length ss → shownAs bs (sweep.go decodeRows sweep.stopping bs k p n ss) ≡ linesOf bs (take n ss) ++ go bs k p
+  pub shown : (k p n : ℕ) (ss : List ℕ) → n + k ≤ length ss → shownAs bs (sweep.go decodeRows sweep.stopping bs k p n ss) ≡ linesOf bs (take n ss) ++ go bs k p
   unfolding go sweep.go
   shown zero p n ss h = refl
   shown (suc k) p n ss h =

@@ -1,2 +1,1 @@
 pub mod Nibble
-pub mod Outcomes

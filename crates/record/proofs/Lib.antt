@@ -2,4 +2,3 @@ pub mod Apart
 pub mod Ends
 pub mod Arms
 pub mod Same
-pub mod Outcomes

@@ -1,5 +1,6 @@
 -- Decoding repeated: the places of the accepted instructions, and where and why it stops.
 use Prim.Native.Nat.{ℕ, zero, suc, _+_}
+use mathlib.Core.Path.{_≡_}
 use mathlib.Core.List.{List}
 use lib.ListN.{length, drop, set}
 use lib.Dec.{ltb, leb, eqb}
@@ -35,7 +36,8 @@ module _ (reading : List ℕ → Answer) (rule : ℕ → Answer → Onward) wher
   abbrev pub turn : ℕ → ℕ → List ℕ → Answer → (ℕ → ℕ → List ℕ → End) → End
   turn p n ss x k = pick (eqb (x .refusal) 0) (k (p + x .taken) (n + 1) (set ss n p)) (refusedAt (rule p x) (x .refusal) n p ss (λ q. k q n ss))
 
-  -- from place p, with n places kept in ss, decoding at most so many times more; the end is no refusal
+  -- from place p, with n places kept in ss, decoding at most so many times more; the end is no refusal. By document 01's reading and
+  -- rule a turn for each byte left is enough, so turns never run out: `enough` of proofs/Enough
   unfoldable pub go : List ℕ → ℕ → ℕ → ℕ → List ℕ → End
   go bs zero p n ss = ended 0 n p ss
   go bs (suc k) p n ss = pick (leb (length bs) p) (ended 0 n p ss) (turn p n ss (reading (drop p bs)) (λ q m ts. go bs k q m ts))
@@ -45,3 +47,8 @@ unfoldable pub whole : List ℕ → List ℕ → End
 whole bs ss =
     pick (ltb 4096 (length bs)) (ended 7 0 0 ss)
     (pick (ltb (length ss) (length bs)) (ended 6 0 0 ss) (go decodeRows stopping bs (length bs) 0 0 ss))
+
+-- the promise: what is returned, and every entry of the starts as it is left
+pub record Sweeps (image starts : List ℕ) (r : Swept) (after : List ℕ) : Type 0 where
+  pub returned : r ≡ whole image starts .swept
+  pub kept : after ≡ whole image starts .starts

@@ -1,5 +1,4 @@
-ghost use mathlib.Core.Path.{_≡_};
-ghost use Rattle.sweep.specs.Sweep.{whole};
+ghost use Rattle.sweep.specs.Sweep.{Sweeps};
 
 // How many starts were kept, where decoding stopped, and the refusal there: 0 at the image's end.
 pub struct Swept {
@@ -8,9 +7,15 @@ pub struct Swept {
     pub place: usize,
 }
 
+// What the loop breaks out with: the stopping place, and the refusal there.
+struct Stopped {
+    refusal: u8,
+    place: usize,
+}
+
 // The starts of an image's instructions, from 0 to its end or the first refusal.
 pub fn sweep(image: &[u8], starts: &mut [u16]) -> Swept
-    ensures { λ r. ⌜ (r ≡ whole (now (image .entry)) (now (starts .entry)) .swept) × (now (starts .exit) ≡ whole (now (image .entry)) (now (starts .entry)) .starts) ⌝ }
+    ensures { λ r. ⌜ Sweeps (now (image .entry)) (now (starts .entry)) r (now (starts .exit)) ⌝ }
 {
     if 4096 < image.len() {
         return Swept {
@@ -26,25 +31,29 @@ pub fn sweep(image: &[u8], starts: &mut [u16]) -> Swept
             place: 0,
         };
     }
-    let mut refusal: u8 = 0;
     let mut count: usize = 0;
     let mut place: usize = 0;
-    loop {
+    let stopped = loop {
         if image.len() <= place {
-            break;
+            break Stopped {
+                refusal: 0,
+                place: place,
+            };
         }
         let a = decode::decode(image, place);
         if a.refusal != 0 {
-            refusal = a.refusal;
-            break;
+            break Stopped {
+                refusal: a.refusal,
+                place: place,
+            };
         }
         starts[count] = place as u16;
         count = count + 1;
         place = place + a.taken;
-    }
+    };
     Swept {
-        refusal: refusal,
+        refusal: stopped.refusal,
         count: count,
-        place: place,
+        place: stopped.place,
     }
 }

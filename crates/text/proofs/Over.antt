@@ -11,7 +11,7 @@ use borrow.Rule.Slice.PartMut.{putMid}
 use borrow.Author.Tests.{le-leb, lt-leb}
 use Rattle.lent.proofs.Rest.{rest, given-back}
 use Rattle.text.specs.declared.Written.{Written}
-use Rattle.text.specs.Left.{over, left}
+use Rattle.text.specs.Left.{over, left, Writes}
 
 -- the buffer with a text from a place on
 abbrev pub from : ℕ → List ℕ → List ℕ → List ℕ
@@ -61,14 +61,14 @@ module _ (at : ℕ) (l xs : List ℕ) (h : at + length xs ≤ length l) {ys : Li
 
 -- what a writer answers, with and without room
 module _ (xs bs : List ℕ) {n : ℕ} (e : n ≡ length xs) where
-  pub no-room : length bs < n → (_≡_ {A = Written} (record { refusal = 6; length = 0 }) (left xs bs .written)) × (bs ≡ left xs bs .buffer)
+  pub no-room : length bs < n → Writes xs bs (record { refusal = 6; length = 0 }) bs
   unfolding left
-  no-room h = let g : length bs < length xs = omega arith in (rw (lt-leb _ _ g), rw (lt-leb _ _ g))
+  no-room h = let g : length bs < length xs = omega arith in record { returned = rw (lt-leb _ _ g); kept = rw (lt-leb _ _ g) }
 
-  pub room : {ys : List ℕ} → n ≤ length bs → ys ≡ over xs bs → (_≡_ {A = Written} (record { refusal = 0; length = n }) (left xs bs .written)) × (ys ≡ left xs bs .buffer)
+  pub room : {ys : List ℕ} → n ≤ length bs → ys ≡ over xs bs → Writes xs bs (record { refusal = 0; length = n }) ys
   unfolding left
-  room h q = let g : length xs ≤ length bs = omega arith in (rw (le-leb _ _ g) (ap (λ (k : ℕ). record { refusal = 0; length = k }) e), rw (le-leb _ _ g) q)
+  room h q = let g : length xs ≤ length bs = omega arith in record { returned = rw (le-leb _ _ g) (ap (λ (k : ℕ). record { refusal = 0; length = k }) e); kept = rw (le-leb _ _ g) q }
 
 -- what is said of a text is said of an equal one
-pub said : (bs : List ℕ) {xs ys zs : List ℕ} {w : Written} → ys ≡ xs → (w ≡ left ys bs .written) × (zs ≡ left ys bs .buffer) → (w ≡ left xs bs .written) × (zs ≡ left xs bs .buffer)
-said bs {xs} {ys} {zs} {w} e h = subst (λ s. (w ≡ left s bs .written) × (zs ≡ left s bs .buffer)) e h
+pub said : (bs : List ℕ) {xs ys zs : List ℕ} {w : Written} → ys ≡ xs → Writes ys bs w zs → Writes xs bs w zs
+said bs {xs} {ys} {zs} {w} e h = subst (λ s. Writes s bs w zs) e h

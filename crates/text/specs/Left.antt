@@ -1,5 +1,6 @@
 -- What a writer of text returns and leaves.
 use Prim.Native.Nat.{ℕ}
+use mathlib.Core.Path.{_≡_}
 use mathlib.Core.List.{List, _++_}
 use lib.ListN.{length, drop}
 use lib.Dec.{leb}
@@ -20,3 +21,8 @@ left xs bs =
     pick (leb (length xs) (length bs))
     (record { written = record { refusal = 0; length = length xs }; buffer = over xs bs })
     (record { written = record { refusal = 6; length = 0 }; buffer = bs })
+
+-- the promise, of any text: what is returned, and every byte of the buffer as it is left
+pub record Writes (text buffer : List ℕ) (w : Written) (after : List ℕ) : Type 0 where
+  pub returned : w ≡ left text buffer .written
+  pub kept : after ≡ left text buffer .buffer

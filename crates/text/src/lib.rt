@@ -3,8 +3,7 @@ mod names; // names
 mod words; // the line in parts
 mod write; // the parts into the buffer
 
-ghost use mathlib.Core.Path.{_≡_};
-ghost use Rattle.text.specs.Left.{left};
+ghost use Rattle.text.specs.Left.{Writes};
 ghost use Rattle.text.specs.Line.{lineOf, fromWidth, endText, refusedText};
 use record::Record;
 
@@ -16,7 +15,7 @@ pub struct Written {
 
 // The line of a record at a place.
 pub fn line(place: usize, r: Record, out: &mut [u8]) -> Written
-    ensures { λ w. ⌜ (w ≡ left (lineOf place r) (now (out .entry)) .written) × (now (out .exit) ≡ left (lineOf place r) (now (out .entry)) .buffer) ⌝ }
+    ensures { λ w. ⌜ Writes (lineOf place r) (now (out .entry)) w (now (out .exit)) ⌝ }
 {
     let words = words::words_of(words::place_word(place), words::length_word(r.length), r);
     write::deliver(&words, out)
@@ -24,7 +23,7 @@ pub fn line(place: usize, r: Record, out: &mut [u8]) -> Written
 
 // The same from the width on.
 pub fn line_from_width(r: Record, out: &mut [u8]) -> Written
-    ensures { λ w. ⌜ (w ≡ left (fromWidth r) (now (out .entry)) .written) × (now (out .exit) ≡ left (fromWidth r) (now (out .entry)) .buffer) ⌝ }
+    ensures { λ w. ⌜ Writes (fromWidth r) (now (out .entry)) w (now (out .exit)) ⌝ }
 {
     let words = words::words_of(0, 0, r);
     write::deliver(&words, out)
@@ -32,7 +31,7 @@ pub fn line_from_width(r: Record, out: &mut [u8]) -> Written
 
 // The line at an image's end.
 pub fn end(place: usize, out: &mut [u8]) -> Written
-    ensures { λ w. ⌜ (w ≡ left (endText place) (now (out .entry)) .written) × (now (out .exit) ≡ left (endText place) (now (out .entry)) .buffer) ⌝ }
+    ensures { λ w. ⌜ Writes (endText place) (now (out .entry)) w (now (out .exit)) ⌝ }
 {
     let words = words::end_words(place);
     write::deliver(&words, out)
@@ -40,7 +39,7 @@ pub fn end(place: usize, out: &mut [u8]) -> Written
 
 // The line of a refused place.
 pub fn refused(place: usize, refusal: u8, taken: usize, out: &mut [u8]) -> Written
-    ensures { λ w. ⌜ (w ≡ left (refusedText place refusal taken) (now (out .entry)) .written) × (now (out .exit) ≡ left (refusedText place refusal taken) (now (out .entry)) .buffer) ⌝ }
+    ensures { λ w. ⌜ Writes (refusedText place refusal taken) (now (out .entry)) w (now (out .exit)) ⌝ }
 {
     let words = words::refused_words(place, refusal, taken);
     write::deliver(&words, out)

@@ -2,7 +2,7 @@
 ghost use mathlib.Core.Path.{_≡_};
 ghost use Prim.Native.Nat.{_≤_};
 ghost use lib.ListN.{length};
-ghost use Rattle.text.specs.Left.{left, over};
+ghost use Rattle.text.specs.Left.{over, Writes};
 ghost use Rattle.text.specs.Packed.{chars, text};
 use crate::Written;
 
@@ -64,7 +64,7 @@ fn write_all(words: &[u64], out: &mut [u8])
 }
 
 pub fn deliver(words: &[u64], out: &mut [u8]) -> Written
-    ensures { λ r. ⌜ (r ≡ left (text (now (words .entry))) (now (out .entry)) .written) × (now (out .exit) ≡ left (text (now (words .entry))) (now (out .entry)) .buffer) ⌝ }
+    ensures { λ r. ⌜ Writes (text (now (words .entry))) (now (out .entry)) r (now (out .exit)) ⌝ }
 {
     let n = count_all(words);
     if out.len() < n {
