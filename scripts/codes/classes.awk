@@ -28,3 +28,8 @@ function agree(code, list, is) {
     if (listed(list, code) != is)
         stop(spaced(code) ": the list " list " and the stored answers do not agree")
 }
+
+# each code and its class, in no order
+function print_classes(   code) {
+    for (code in class_of) print code, class_of[code]
+}

@@ -10,7 +10,8 @@ END {
     keep_definition()
     classify()
     check_counts()
-    draw()
+    if (classes_only) print_classes()
+    else draw()
 }
 
 # END runs after an exit elsewhere, and must do nothing then.

@@ -14,7 +14,7 @@ use Rattle.groups_74.proofs.op7A.decode_op7A.Tie as tie
 
 returns : tie.Need-returns
 unfolding row7A
-returns c = let h : 8 ≤ (c .before .before .before .args .b) / 16 = omega arith in rw (le-leb _ _ h, ← upper (c .before .before .before .args .b) (search needs) (c .before .if1 .taken)) (c .load-control .ensures)
+returns c = let h : 8 ≤ (c .before .before .before .args .b) / 16 = omega arith in rw (le-leb _ _ h, ← upper (c .before .before .before .args .b) (search needs) (omega arith)) (c .load-control .ensures)
 
 returns-2 : tie.Need-returns-2
 unfolding row7A runRow row
