@@ -4,6 +4,5 @@ pub mod Rows
 pub mod Run
 pub mod Fate
 pub mod All
-pub mod Bench
 pub mod Agree
 pub mod Lists
