@@ -1,6 +1,5 @@
 pub mod Reading
 pub mod Steps
-pub mod Bench
 pub mod Taken
 pub mod Behind
 pub mod All

@@ -2,7 +2,7 @@
 use Prim.Native.Nat.{ℕ, _+_}
 use mathlib.Core.Bool.{Bool}
 use mathlib.Core.List.{List, [], _∷_}
-use lib.Dec.{eqb}
+use lib.Dec.{ltb, eqb}
 use Rattle.rows.specs.Row.{Num, disp, imm, imm20, refusalNo, Read, num, cond, stop}
 use Rattle.rows.specs.Rows.{document01}
 
@@ -25,9 +25,12 @@ reach (num k ∷ rs) = bytesOf k + reach rs
 reach (cond ∷ rs) = 1 + reach rs
 reach (stop e ∷ rs) = 0
 
--- codes that come to a given end, and those of them that are marked
+-- codes that come to a given end, those of them that are marked, and those whose rows read bytes
 unfoldable pub ends : ℕ → ℕ → ℕ → Bool
 ends e a b = eqb (fate (document01 .rowAt a b .reads)) e
 
 unfoldable pub markedAt : ℕ → ℕ → Bool
 markedAt a b = document01 .rowAt a b .face .marked
+
+unfoldable pub readsAt : ℕ → ℕ → Bool
+readsAt a b = ltb 0 (reach (document01 .rowAt a b .reads))

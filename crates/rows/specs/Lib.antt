@@ -5,7 +5,6 @@ pub mod Rows
 pub mod Run
 pub mod Fate
 pub mod All
-pub mod Bench
 pub mod Spans
 pub mod Agree
 pub mod Meant

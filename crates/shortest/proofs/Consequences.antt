@@ -75,10 +75,11 @@ module _ (t : Table) where
   }
   same-right r s e none f = λ xs h q. f xs h (same-says s r (sym e) xs q)
 
--- document 01: the bytes found decode to the same instruction, which has their number as its length
-right-bytes : (r : Record) (bs : List ℕ) → encoded r ≡ bytes bs → Best document01 r bs
+-- document 01: the bytes found are the best
+pub right-bytes : (r : Record) (bs : List ℕ) → encoded r ≡ bytes bs → Best document01 r bs
 right-bytes r bs e = subst (Right document01 r) e (chosen r)
 
+-- they decode to the same instruction, which has their number as its length
 pub decodes-back : (r : Record) (bs : List ℕ) → encoded r ≡ bytes bs → Says document01 bs r × (decodeRows bs .inst .length ≡ length bs)
 decodes-back r bs e = let b = right-bytes r bs e in (b .says, length-is document01 r bs b)
 

@@ -1,4 +1,3 @@
 pub mod Choice
 pub mod Range
 pub mod Table
-pub mod Outcome
