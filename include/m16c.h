@@ -246,7 +246,7 @@ uint32_t m16c_encode(const uint32_t *numbers, size_t numbers_length, uint8_t *bu
 
 /* The listing's line of the instruction at a place of an image, without a newline, over the first bytes of a buffer. Returns 0 and leaves
  * the line's length; or decoding's refusal, or 6 where the line has no room, with length 0 and the buffer as it was. */
-uint32_t m16c_line(const uint8_t *image, size_t image_length, size_t at, uint8_t *out, size_t out_length, size_t *length);
+uint32_t m16c_line(const uint8_t *image, size_t image_length, size_t at, uint8_t *out, size_t out_length, size_t *line_length);
 /* End of what is made */
 
 #ifdef __cplusplus

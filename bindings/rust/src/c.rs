@@ -43,7 +43,7 @@ extern "C" {
         image: *const u8, image_length: usize,
         at: usize,
         out: *mut u8, out_length: usize,
-        length: *mut usize,
+        line_length: *mut usize,
     ) -> u32;
 }
 
@@ -73,5 +73,5 @@ pub type Line = unsafe extern "C" fn(
     image: *const u8, image_length: usize,
     at: usize,
     out: *mut u8, out_length: usize,
-    length: *mut usize,
+    line_length: *mut usize,
 ) -> u32;

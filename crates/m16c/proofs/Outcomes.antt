@@ -1,14 +1,9 @@
--- Each public function's promise leaves one outcome.
+-- The promise of m16c_decode leaves one outcome: the number returned, and every entry of the list that was lent.
 -- Assumes nothing.
 use Prim.Native.Nat.{ℕ}
+use mathlib.Core.Path.{_≡_, sym, _∙_}
 use mathlib.Core.List.{List}
-use Rattle.tests.specs.Outcome.{OneOutcome}
-use Rattle.tests.proofs.Outcome.{one-outcome}
-use Rattle.m16c.specs.Decoded.{decoded}
+use Rattle.m16c.specs.Decoded.{Decodes}
 
--- the number returned, and the list that was lent
-pub decode-number : (image : List ℕ) (at : ℕ) (out : List ℕ) → OneOutcome (decoded image at out .no)
-decode-number image at out = one-outcome (decoded image at out .no)
-
-pub decode-list : (image : List ℕ) (at : ℕ) (out : List ℕ) → OneOutcome (decoded image at out .out)
-decode-list image at out = one-outcome (decoded image at out .out)
+pub decodes-once : {image : List ℕ} {at : ℕ} {out : List ℕ} {r s : ℕ} {after later : List ℕ} → Decodes image at out r after → Decodes image at out s later → (r ≡ s) × (after ≡ later)
+decodes-once a b = (a .returned ∙ sym (b .returned), a .kept ∙ sym (b .kept))

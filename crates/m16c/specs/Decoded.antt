@@ -1,5 +1,6 @@
 -- What m16c_decode returns and leaves in the list that it is lent.
 use Prim.Native.Nat.{ℕ}
+use mathlib.Core.Path.{_≡_}
 use mathlib.Core.Bool.{Bool, true, false}
 use mathlib.Core.List.{List, [], _∷_, _++_}
 use lib.ListN.{length, drop}
@@ -40,3 +41,8 @@ unfoldable pub decoded : List ℕ → ℕ → List ℕ → Left
 decoded image at out =
     pick (ltb (length out) 12) (record { no = 6; out = out })
     (record { no = decodeRows (drop at image) .refusal; out = numbersOf (decodeRows (drop at image)) ++ drop 12 out })
+
+-- the promise: the number returned, and every entry of the list as it is left
+pub record Decodes (image : List ℕ) (at : ℕ) (out : List ℕ) (r : ℕ) (after : List ℕ) : Type 0 where
+  pub returned : r ≡ decoded image at out .no
+  pub kept : after ≡ decoded image at out .out

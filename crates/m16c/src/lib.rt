@@ -3,7 +3,7 @@ ghost use mathlib.Core.Path.{_≡_};
 ghost use mathlib.Core.List.{_++_};
 ghost use Prim.Native.Nat.{_≤_};
 ghost use lib.ListN.{length, drop};
-ghost use Rattle.m16c.specs.Decoded.{flagNo, numbersOf, decoded};
+ghost use Rattle.m16c.specs.Decoded.{flagNo, numbersOf, Decodes};
 use record::Answer;
 use record::numbers;
 
@@ -43,7 +43,7 @@ fn deliver(a: Answer, out: &mut [u32])
 // operands, imm_wide, dispabs, first, length, marked. With fewer than twelve entries it returns 6 and touches none.
 #[no_mangle]
 pub extern "C" fn m16c_decode(image: &[u8], at: usize, out: &mut [u32]) -> u32
-    ensures { λ r. ⌜ (r ≡ decoded (now (image .entry)) at (now (out .entry)) .no) × (now (out .exit) ≡ decoded (now (image .entry)) at (now (out .entry)) .out) ⌝ }
+    ensures { λ r. ⌜ Decodes (now (image .entry)) at (now (out .entry)) r (now (out .exit)) ⌝ }
 {
     if out.len() < 12 {
         return 6;

@@ -1,5 +1,6 @@
 -- What m16c_line returns and leaves.
 use Prim.Native.Nat.{ℕ}
+use mathlib.Core.Path.{_≡_}
 use mathlib.Core.List.{List}
 use lib.ListN.{drop}
 use lib.Dec.{eqb}
@@ -19,3 +20,9 @@ lineAt at x out = pick (eqb (x .refusal) 0) (left (lineOf at (x .inst)) out) (un
 
 unfoldable pub lined : List ℕ → ℕ → List ℕ → Left
 lined image at out = lineAt at (decodeRows (drop at image)) out
+
+-- the promise: the number returned, the line's length, and every byte of the buffer as it is left
+pub record Lines (image : List ℕ) (at : ℕ) (out : List ℕ) (r n : ℕ) (after : List ℕ) : Type 0 where
+  pub returned : r ≡ lined image at out .written .refusal
+  pub measured : n ≡ lined image at out .written .length
+  pub kept : after ≡ lined image at out .buffer

@@ -1,20 +1,19 @@
 // A listing's line for C, a crate of its own: the functions below are inlined into it only where they have one caller.
-ghost use mathlib.Core.Path.{_≡_};
-ghost use Rattle.m16c_line.specs.Lined.{lined};
+ghost use Rattle.m16c_line.specs.Lined.{Lines};
 
 // The listing's line of the instruction at a place of an image, without a newline, over the first bytes of a buffer. Returns 0 and leaves
 // the line's length; or decoding's refusal, or 6 where the line has no room, with length 0 and the buffer as it was.
 #[no_mangle]
-pub extern "C" fn m16c_line(image: &[u8], at: usize, out: &mut [u8], length: &mut usize) -> u32
-    ensures { λ r. ⌜ (let w = lined (now (image .entry)) at (now (out .entry)) in (r ≡ w .written .refusal) × (now (length .exit) ≡ w .written .length) × (now (out .exit) ≡ w .buffer)) ⌝ }
+pub extern "C" fn m16c_line(image: &[u8], at: usize, out: &mut [u8], line_length: &mut usize) -> u32
+    ensures { λ r. ⌜ Lines (now (image .entry)) at (now (out .entry)) r (now («line_length» .exit)) (now (out .exit)) ⌝ }
 {
     let a = decode::decode(image, at);
     if a.refusal != 0 {
-        *length = 0;
+        *line_length = 0;
         return a.refusal as u32;
     }
     let inst = a.inst;
     let w = text::line(at, inst, out);
-    *length = w.length;
+    *line_length = w.length;
     w.refusal as u32
 }

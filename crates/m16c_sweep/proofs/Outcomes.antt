@@ -1,20 +1,12 @@
--- The promise of m16c_sweep leaves one outcome: the number returned, count and place, and the list that was lent.
+-- The promise of m16c_sweep leaves one outcome: the number returned, count and place, and every entry of the list that was lent.
 -- Assumes nothing.
 use Prim.Native.Nat.{ℕ}
+use mathlib.Core.Path.{_≡_, ap}
 use mathlib.Core.List.{List}
-use Rattle.tests.specs.Outcome.{OneOutcome}
-use Rattle.tests.proofs.Outcome.{one-outcome}
-use Rattle.sweep.specs.Sweep.{whole}
+use Rattle.sweep.proofs.Outcomes.{sweeps-once}
+use Rattle.m16c_sweep.specs.Told.{Told}
 
-module _ (image starts : List ℕ) where
-  pub sweep-number : OneOutcome (whole image starts .swept .refusal)
-  sweep-number = one-outcome (whole image starts .swept .refusal)
-
-  pub sweep-count : OneOutcome (whole image starts .swept .count)
-  sweep-count = one-outcome (whole image starts .swept .count)
-
-  pub sweep-place : OneOutcome (whole image starts .swept .place)
-  sweep-place = one-outcome (whole image starts .swept .place)
-
-  pub sweep-starts : OneOutcome (whole image starts .starts)
-  sweep-starts = one-outcome (whole image starts .starts)
+pub told-once : {image starts : List ℕ} {r s n m p q : ℕ} {after later : List ℕ} → Told image starts r n p after → Told image starts s m q later → (r ≡ s) × (n ≡ m) × (p ≡ q) × (after ≡ later)
+told-once a b =
+    let e = sweeps-once a b in
+    (ap (λ x. x .refusal) (e .0), ap (λ x. x .count) (e .0), ap (λ x. x .place) (e .0), e .1)

@@ -1,6 +1,5 @@
 // The sweep for C, a crate of its own: the functions below are inlined into it only where they have one caller.
-ghost use mathlib.Core.Path.{_≡_};
-ghost use Rattle.sweep.specs.Sweep.{whole};
+ghost use Rattle.m16c_sweep.specs.Told.{Told};
 
 // The starts of an image's instructions, from 0 to its end or the first refusal. Returns that refusal, 0 at the end, or 7 or 6, and
 // leaves how many starts were kept and where decoding stopped.
@@ -11,7 +10,7 @@ pub extern "C" fn m16c_sweep(
     count: &mut usize,
     place: &mut usize,
 ) -> u32
-    ensures { λ r. ⌜ (let w = whole (now (image .entry)) (now (starts .entry)) in (r ≡ w .swept .refusal) × (now (count .exit) ≡ w .swept .count) × (now (place .exit) ≡ w .swept .place) × (now (starts .exit) ≡ w .starts)) ⌝ }
+    ensures { λ r. ⌜ Told (now (image .entry)) (now (starts .entry)) r (now (count .exit)) (now (place .exit)) (now (starts .exit)) ⌝ }
 {
     let s = sweep::sweep(image, starts);
     *count = s.count;

@@ -1,13 +1,10 @@
--- The sweep's promise leaves one outcome: what is returned, and the list that was lent.
+-- The sweep's promise leaves one outcome: what is returned, and every entry of the list that was lent.
 -- Assumes nothing.
 use Prim.Native.Nat.{ℕ}
+use mathlib.Core.Path.{_≡_, sym, _∙_}
 use mathlib.Core.List.{List}
-use Rattle.tests.specs.Outcome.{OneOutcome}
-use Rattle.tests.proofs.Outcome.{one-outcome}
-use Rattle.sweep.specs.Sweep.{whole}
+use Rattle.sweep.specs.declared.Swept.{Swept}
+use Rattle.sweep.specs.Sweep.{Sweeps}
 
-pub sweep-returned : (image starts : List ℕ) → OneOutcome (whole image starts .swept)
-sweep-returned image starts = one-outcome (whole image starts .swept)
-
-pub sweep-starts : (image starts : List ℕ) → OneOutcome (whole image starts .starts)
-sweep-starts image starts = one-outcome (whole image starts .starts)
+pub sweeps-once : {image starts : List ℕ} {r s : Swept} {after later : List ℕ} → Sweeps image starts r after → Sweeps image starts s later → (r ≡ s) × (after ≡ later)
+sweeps-once a b = (a .returned ∙ sym (b .returned), a .kept ∙ sym (b .kept))

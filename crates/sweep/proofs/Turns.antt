@@ -1,7 +1,7 @@
 -- One turn of the stopping sweep, in the forms that the loop meets.
 -- Assumes nothing.
 use Prim.Native.Nat.{ℕ, zero, suc, _+_, _-_, _≤_, _<_}
-use mathlib.Core.Path.{_≡_, refl, sym, ap, _∙_}
+use mathlib.Core.Path.{_≡_, refl, sym, ap, subst, _∙_}
 use mathlib.Core.List.{List}
 use native.Mathlib.Omega.{arith}
 use lib.ListN.{length, drop, set, length-drop}
@@ -11,8 +11,7 @@ use Rattle.rows.specs.Rows.{document01}
 use Rattle.rows.specs.Run.{decodeRows}
 use Rattle.rows.proofs.Taken.{counted}
 use Rattle.rows.proofs.Length.{at-least}
-use Rattle.sweep.specs.Sweep.{End, ended, stopping, turn, go, whole}
-use Rattle.sweep.specs.declared.Swept.{Swept}
+use Rattle.sweep.specs.Sweep.{ended, stopping, turn, go, whole, Sweeps}
 
 module _ (bs : List ℕ) (p n : ℕ) (ss : List ℕ) where
   pub at-end : (k : ℕ) → length bs ≤ p → go decodeRows stopping bs k p n ss ≡ ended 0 n p ss
@@ -45,9 +44,9 @@ module _ (bs : List ℕ) (p n : ℕ) (ss : List ℕ) where
     rw d (rw length-drop at (counted document01 (drop p bs) .within)),
   )
 
-pub split : (bs ss : List ℕ) {e n p : ℕ} {ts : List ℕ} → ended e n p ts ≡ whole bs ss
-    → (_≡_ {A = Swept} (record { refusal = e; count = n; place = p }) (whole bs ss .swept)) × (ts ≡ whole bs ss .starts)
-split bs ss q = (ap (λ (x : End). x .swept) q, ap (λ (x : End). x .starts) q)
+-- an outcome that is the whole answer keeps the promise
+pub sweeps : (bs ss : List ℕ) {e n p : ℕ} {ts : List ℕ} → ended e n p ts ≡ whole bs ss → Sweeps bs ss (record { refusal = e; count = n; place = p }) ts
+sweeps bs ss q = subst (λ x. Sweeps bs ss (x .swept) (x .starts)) (sym q) (record { returned = refl; kept = refl })
 
 module _ (bs ss : List ℕ) where
   pub too-long : 4096 < length bs → ended 7 0 0 ss ≡ whole bs ss

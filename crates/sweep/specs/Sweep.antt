@@ -1,5 +1,6 @@
 -- Decoding repeated: the places of the accepted instructions, and where and why it stops.
 use Prim.Native.Nat.{ℕ, zero, suc, _+_}
+use mathlib.Core.Path.{_≡_}
 use mathlib.Core.List.{List}
 use lib.ListN.{length, drop, set}
 use lib.Dec.{ltb, leb, eqb}
@@ -45,3 +46,8 @@ unfoldable pub whole : List ℕ → List ℕ → End
 whole bs ss =
     pick (ltb 4096 (length bs)) (ended 7 0 0 ss)
     (pick (ltb (length ss) (length bs)) (ended 6 0 0 ss) (go decodeRows stopping bs (length bs) 0 0 ss))
+
+-- the promise: what is returned, and every entry of the starts as it is left
+pub record Sweeps (image starts : List ℕ) (r : Swept) (after : List ℕ) : Type 0 where
+  pub returned : r ≡ whole image starts .swept
+  pub kept : after ≡ whole image starts .starts

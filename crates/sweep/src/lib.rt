@@ -1,5 +1,4 @@
-ghost use mathlib.Core.Path.{_≡_};
-ghost use Rattle.sweep.specs.Sweep.{whole};
+ghost use Rattle.sweep.specs.Sweep.{Sweeps};
 
 // How many starts were kept, where decoding stopped, and the refusal there: 0 at the image's end.
 pub struct Swept {
@@ -10,7 +9,7 @@ pub struct Swept {
 
 // The starts of an image's instructions, from 0 to its end or the first refusal.
 pub fn sweep(image: &[u8], starts: &mut [u16]) -> Swept
-    ensures { λ r. ⌜ (r ≡ whole (now (image .entry)) (now (starts .entry)) .swept) × (now (starts .exit) ≡ whole (now (image .entry)) (now (starts .entry)) .starts) ⌝ }
+    ensures { λ r. ⌜ Sweeps (now (image .entry)) (now (starts .entry)) r (now (starts .exit)) ⌝ }
 {
     if 4096 < image.len() {
         return Swept {

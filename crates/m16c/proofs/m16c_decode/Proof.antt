@@ -13,7 +13,7 @@ use Rattle.m16c.proofs.m16c_decode.Tie as tie
 
 returns : tie.Need-returns
 unfolding decoded
-returns c = (rw (lt-ltb _ 12 (c .if1 .taken)), rw (lt-ltb _ 12 (c .if1 .taken)))
+returns c = record { returned = rw (lt-ltb _ 12 (c .if1 .taken)); kept = rw (lt-ltb _ 12 (c .if1 .taken)) }
 
 deliver-requires : tie.Need-deliver-requires
 deliver-requires c κs = let t = small (c .before .before .before .before .before .args .image .now) (c .before .before .before .before .before .args .at) (λ k. omega (arith, c .before .before .before .before .shared-slice-known .given k)) in
@@ -23,8 +23,12 @@ deliver-requires c κs = let t = small (c .before .before .before .before .befor
 
 returns-2 : tie.Need-returns-2
 unfolding decoded
-returns-2 c = let e = c .before .before .before .before .before .decode .ensures in
-    (rw (le-ltb _ 12 (c .before .before .before .before .before .before .if1 .left)) (ap (λ x. x .refusal) e), rw (le-ltb _ 12 (c .before .before .before .before .before .before .if1 .left)) (c .before .before .before .deliver .ensures ∙ ap (λ x. numbersOf x ++ drop 12 (c .before .before .before .before .before .before .before .before .before .args .out .now)) e))
+returns-2 c =
+    let d = c .before .before .before .before .before in
+    let room = le-ltb _ 12 (d .before .if1 .left) in
+    let e = d .decode .ensures in
+    let start = d .before .before .before .before .args in
+    record { returned = rw room (ap (λ x. x .refusal) e); kept = rw room (c .before .before .before .deliver .ensures ∙ ap (λ x. numbersOf x ++ drop 12 (start .out .now)) e) }
 
 pub m16c-decode-spec : {M : Type 1} → statement M
 m16c-decode-spec = tie.close (tie.spec returns (λ c κs. search needs) deliver-requires (λ c. search needs) (λ c. search needs) returns-2)

@@ -9,7 +9,7 @@ use lib.ListN.{length, length-set}
 use borrow.Author.Needs.{needs}
 use Rattle.rows.specs.Run.{decodeRows}
 use Rattle.sweep.specs.Sweep.{stopping, go, ended}
-use Rattle.sweep.proofs.Turns.{at-end, refused, accepted, inside, split, too-long, no-room, swept}
+use Rattle.sweep.proofs.Turns.{at-end, refused, accepted, inside, sweeps, too-long, no-room, swept}
 use Rattle.sweep.proofs.sweep.Statement.{statement}
 use Rattle.sweep.proofs.sweep.Tie as tie
 
@@ -22,10 +22,10 @@ abbrev μ-loop : tie.MeasureT-loop
 μ-loop image starts₀ refusal₀ count₀ place₀ starts refusal count place = length image - place
 
 returns : tie.Need-returns Inv-loop μ-loop
-returns c = split _ _ (too-long _ _ (omega arith))
+returns c = sweeps _ _ (too-long _ _ (omega arith))
 
 returns-2 : tie.Need-returns-2 Inv-loop μ-loop
-returns-2 c = split _ _ (no-room _ _ (omega arith) (omega arith))
+returns-2 c = sweeps _ _ (no-room _ _ (omega arith) (omega arith))
 
 loop-holds : tie.Need-loop-holds Inv-loop μ-loop
 loop-holds c = (refl, omega arith, omega arith, refl, rw sub-zero)
@@ -49,7 +49,7 @@ same-length : tie.Need-same-length Inv-loop μ-loop
 same-length c = c .before .loop .inv .3
 
 returns-3 : tie.Need-returns-3 Inv-loop μ-loop
-returns-3 c = split _ _
+returns-3 c = sweeps _ _
     (ap (λ e. ended e (c .before .loop .count) (c .before .loop .place) (c .before .loop .starts)) (c .before .loop .inv .0)
     ∙ sym (at-end _ _ _ _ _ (omega arith)) ∙ c .before .loop .inv .4 ∙ swept _ _ (omega arith) (omega arith))
 
@@ -57,7 +57,7 @@ same-length-2 : tie.Need-same-length-2 Inv-loop μ-loop
 same-length-2 c = c .before .before .before .before .loop .inv .3
 
 returns-4 : tie.Need-returns-4 Inv-loop μ-loop
-returns-4 c = split _ _
+returns-4 c = sweeps _ _
     (sym (refused _ _ _ _ (omega arith) (omega arith) (c .before .before .decode .ensures) (c .if3 .taken)) ∙ c .before .before .before .before .loop .inv .4 ∙ swept _ _ (omega arith) (omega arith))
 
 pub sweep-spec : {M : Type 1} → statement M
