@@ -1,3 +1,6 @@
 pub mod Hex
-pub mod Line
+pub mod Form
+pub mod Verdict
 pub mod Numbers
+pub mod Decoding
+pub mod Sweeping

@@ -3,7 +3,7 @@ ghost use mathlib.Core.Path.{_≡_};
 ghost use lib.ListN.{length};
 use crate::form;
 use crate::hex;
-use crate::line::Verdict;
+use crate::verdict::Verdict;
 
 // The twelve numbers of a record, as the C library takes them.
 fn numbers_in(line: &[u8]) -> [u32; 12]

@@ -1,18 +1,19 @@
 // Replays the stored list of answers: decodes, encodes or sweeps what each line of its input gives, and compares.
 // Its last line of output counts the answers compared, those that differ and, if there are any, the malformed lines.
+mod decoding;
 mod encoding;
 mod form;
 mod hex;
-mod line;
 mod numbers;
 mod sweeping;
 mod tally;
+mod verdict;
 
 ghost use Prim.Native.Nat.{_≤_, _<_};
 use libc::STDIN_FILENO;
 use libc::STDOUT_FILENO;
-use line::Verdict;
 use tally::Tally;
+use verdict::Verdict;
 
 // 80 lines of 49 characters.
 const PIECE: usize = 80 * 49;
@@ -33,7 +34,7 @@ fn judge(line: &[u8]) -> Verdict {
     if line[0] == b'S' {
         return sweeping::judge(line);
     }
-    line::judge(line)
+    decoding::judge(line)
 }
 
 // The first line that differs is written when it is met, so that no later step has to keep it.
