@@ -29,12 +29,12 @@ extern "C" {
     ) -> u32;
 
     /// Encodes the record of twelve numbers, in the order that m16c_decode fills, from a place of a buffer on. Taken, length and marked do
-    /// not count. Returns 0 and leaves the length written, or 5 or 6 with length 0 and the buffer as it was.
+    /// not count. Returns 0 and leaves the number of bytes written, or 5 or 6 with 0 and the buffer as it was.
     pub fn m16c_encode(
         numbers: *const u32, numbers_length: usize,
         buf: *mut u8, buf_length: usize,
         place: usize,
-        length: *mut usize,
+        bytes_written: *mut usize,
     ) -> u32;
 
     /// The listing's line of the instruction at a place of an image, without a newline, over the first bytes of a buffer. Returns 0 and leaves
@@ -66,7 +66,7 @@ pub type Encode = unsafe extern "C" fn(
     numbers: *const u32, numbers_length: usize,
     buf: *mut u8, buf_length: usize,
     place: usize,
-    length: *mut usize,
+    bytes_written: *mut usize,
 ) -> u32;
 
 pub type Line = unsafe extern "C" fn(

@@ -11,4 +11,3 @@ pub mod Found
 pub mod Tagged
 pub mod Ordered
 pub mod Taken
-pub mod Outcomes

@@ -1,7 +1,7 @@
 -- A plan's bytes in a buffer, from a place on: with room for them, and without.
 -- Assumes nothing.
 use Prim.Native.Nat.{ℕ, _+_, _-_, _≤_, _<_}
-use mathlib.Core.Path.{_≡_, ap, _∙_}
+use mathlib.Core.Path.{_≡_, ap, ap₂, _∙_}
 use mathlib.Core.List.{List, _++_}
 use native.Mathlib.Omega.{arith}
 use lib.ListN.{length, take, drop, length-append}
@@ -12,7 +12,7 @@ use Rattle.lent.proofs.Rest.{rest, given-back}
 use Rattle.shortest.specs.Digits.{digits}
 use Rattle.shortest.proofs.Runs.{digits-length}
 use Rattle.shortest.specs.Says.{bytes}
-use Rattle.shortest.specs.Written.{written}
+use Rattle.shortest.specs.Written.{outcome, written}
 use Rattle.encode.specs.declared.Plan.{Plan}
 use Rattle.encode.specs.Plan.{planned, put}
 
@@ -21,9 +21,9 @@ planned-length p =
     omega (arith, length-append (digits (p .count) (p .number)) (digits (p .«rest_count») (p .rest)), digits-length (p .count) (p .number), digits-length (p .«rest_count») (p .rest))
 
 module _ (bs : List ℕ) (k : ℕ) (xs : List ℕ) where
-  pub none : length bs < k + length xs → (6 ≡ written (bytes xs) bs k .no) × (0 ≡ written (bytes xs) bs k .length) × (bs ≡ written (bytes xs) bs k .buffer)
+  pub none : length bs < k + length xs → outcome 6 0 bs ≡ written (bytes xs) bs k
   unfolding written
-  none h = (rw (lt-leb _ _ h), rw (lt-leb _ _ h), rw (lt-leb _ _ h))
+  none h = rw (lt-leb _ _ h)
 
   begun : put 0 xs (drop k bs) ≡ xs ++ drop (k + length xs) bs
   begun =
@@ -31,11 +31,7 @@ module _ (bs : List ℕ) (k : ℕ) (xs : List ℕ) where
       ap (λ z. xs ++ z) (drop-drop (0 + length xs) k bs ∙ ap (λ n. drop n bs) e)
 
   pub some : {n : ℕ} {ys : List ℕ} → n ≡ length xs → k + length xs ≤ length bs → ys ≡ put 0 xs (take (length bs - k) (drop k bs))
-      → (0 ≡ written (bytes xs) bs k .no) × (n ≡ written (bytes xs) bs k .length) × (putMid k (length bs - k) bs ys ≡ written (bytes xs) bs k .buffer)
+      → outcome 0 n (putMid k (length bs - k) bs ys) ≡ written (bytes xs) bs k
   unfolding written
-  some {n} {ys} l h e = (
-    rw (le-leb _ _ h),
-    rw (le-leb _ _ h) l,
-    rw (le-leb _ _ h)
-        (given-back k bs (omega arith) ys ∙ ap (λ z. take k bs ++ z) (e ∙ ap (put 0 xs) (rest k bs) ∙ begun)),
-  )
+  some {n} {ys} l h e =
+      rw (le-leb _ _ h) (ap₂ (outcome 0) l (given-back k bs (omega arith) ys ∙ ap (λ z. take k bs ++ z) (e ∙ ap (put 0 xs) (rest k bs) ∙ begun)))

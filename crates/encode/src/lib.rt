@@ -13,7 +13,7 @@ ghost use Rattle.record.specs.declared.Operand.the-variants.{Nothing};
 ghost use Rattle.record.specs.Same.{sameName};
 ghost use Rattle.shortest.specs.Choose.{encoded};
 ghost use Rattle.shortest.specs.Says.{none};
-ghost use Rattle.shortest.specs.Written.{written};
+ghost use Rattle.shortest.specs.Written.{outcome, Encodes};
 ghost use Rattle.encode.specs.Faced as faced;
 ghost use Rattle.encode.specs.Plan.{foundBy};
 use choose::asks;
@@ -85,7 +85,7 @@ fn find(r: Record) -> Plan
 // The shortest byte string, then the first in byte order, of all that decode by unmarked rows to the same instruction, from a place
 // of a buffer on. 5 if there is none, and then 6 with too little room; refused, it touches nothing.
 pub fn encode(r: Record, buf: &mut [u8], place: usize) -> Encoded
-    ensures { λ e. ⌜ (e .refusal ≡ written (encoded r) (now (buf .entry)) place .no) × (e .length ≡ written (encoded r) (now (buf .entry)) place .length) × (now (buf .exit) ≡ written (encoded r) (now (buf .entry)) place .buffer) ⌝ }
+    ensures { λ e. ⌜ Encodes r (now (buf .entry)) place (outcome (e .refusal) (e .length) (now (buf .exit))) ⌝ }
 {
     let op2 = r.op2;
     if names::same(op2, Operand::Nothing) {

@@ -4,7 +4,7 @@ ghost use Prim.Native.Nat.{_+_, _≤_};
 ghost use lib.ListN.{length};
 ghost use Rattle.shortest.specs.Digits.{digits};
 ghost use Rattle.shortest.specs.Says.{bytes};
-ghost use Rattle.shortest.specs.Written.{written};
+ghost use Rattle.shortest.specs.Written.{outcome, written};
 ghost use Rattle.encode.specs.Plan.{planned, put};
 use crate::Encoded;
 use crate::Plan;
@@ -43,7 +43,7 @@ fn write_plan(out: &mut [u8], p: Plan)
 // A plan's bytes from a place of a buffer on: the rest of the buffer is lent to the writer. 6 with too little room.
 pub(crate) fn write_at(buf: &mut [u8], place: usize, p: Plan) -> Encoded
     requires { ⌜ (p .count ≤ 3) × (p .«rest_count» ≤ 3) ⌝ }
-    ensures { λ r. ⌜ (r .refusal ≡ written (bytes (planned p)) (now (buf .entry)) place .no) × (r .length ≡ written (bytes (planned p)) (now (buf .entry)) place .length) × (now (buf .exit) ≡ written (bytes (planned p)) (now (buf .entry)) place .buffer) ⌝ }
+    ensures { λ r. ⌜ outcome (r .refusal) (r .length) (now (buf .exit)) ≡ written (bytes (planned p)) (now (buf .entry)) place ⌝ }
 {
     let n = 2 + (p.count as usize) + (p.rest_count as usize);
     if buf.len() < place {

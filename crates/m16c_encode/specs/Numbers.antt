@@ -1,14 +1,14 @@
 -- What m16c_encode makes of the numbers that it is lent.
 use Prim.Native.Nat.{ℕ}
-use mathlib.Core.Bool.{Bool, false}
+use mathlib.Core.Path.{_≡_}
+use mathlib.Core.Bool.{Bool, true, false}
 use mathlib.Core.List.{List}
 use lib.ListN.{length, getD}
 use lib.Dec.{ltb, leb}
-use Rattle.tests.specs.Choice.{pick, both}
+use Rattle.tests.specs.Choice.{both}
 use Rattle.record.specs.declared.Record.{Record}
 use Rattle.record.specs.Names.{opcodes, opcodeAt, sizes, sizeAt, widths, widthAt, operands, operandAt}
-use Rattle.shortest.specs.Choose.{encoded}
-use Rattle.shortest.specs.Says.{Found, none}
+use Rattle.shortest.specs.Written.{Left, outcome, Encodes}
 
 -- the number at a place is below a bound
 abbrev pub below : List ℕ → ℕ → ℕ → Bool
@@ -42,6 +42,8 @@ recordOf ns = record {
   marked = false;
 }
 
--- what the encoder finds for the record of twelve numbers; numbers that make no record have no bytes
-unfoldable pub sought : List ℕ → Found
-sought ns = pick (valid ns) (encoded (recordOf ns)) none
+-- numbers encoded into a buffer from a place on: demand 3 of the record that they make; those that make none are refused with 5, and
+-- nothing is touched
+pub record EncodesNumbers (ns buf : List ℕ) (place : ℕ) (out : Left) : Type 0 where
+  pub record-made : valid ns ≡ true → Encodes (recordOf ns) buf place out
+  pub none-made : valid ns ≡ false → out ≡ outcome 5 0 buf

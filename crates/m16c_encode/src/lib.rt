@@ -2,8 +2,8 @@
 ghost use mathlib.Core.Path.{_≡_};
 ghost use Prim.Native.Nat.{_≤_, _<_};
 ghost use lib.ListN.{length, getD};
-ghost use Rattle.shortest.specs.Written.{written};
-ghost use Rattle.m16c_encode.specs.Numbers.{valid, recordOf, sought};
+ghost use Rattle.shortest.specs.Written.{outcome};
+ghost use Rattle.m16c_encode.specs.Numbers.{valid, recordOf, EncodesNumbers};
 use record::Record;
 use record::names;
 
@@ -61,21 +61,21 @@ fn record_of(numbers: &[u32]) -> Record
 }
 
 // Encodes the record of twelve numbers, in the order that m16c_decode fills, from a place of a buffer on. Taken, length and marked do
-// not count. Returns 0 and leaves the length written, or 5 or 6 with length 0 and the buffer as it was.
+// not count. Returns 0 and leaves the number of bytes written, or 5 or 6 with 0 and the buffer as it was.
 #[no_mangle]
 pub extern "C" fn m16c_encode(
     numbers: &[u32],
     buf: &mut [u8],
     place: usize,
-    length: &mut usize,
+    bytes_written: &mut usize,
 ) -> u32
-    ensures { λ r. ⌜ (let w = written (sought (now (numbers .entry))) (now (buf .entry)) place in (r ≡ w .no) × (now (length .exit) ≡ w .length) × (now (buf .exit) ≡ w .buffer)) ⌝ }
+    ensures { λ r. ⌜ EncodesNumbers (now (numbers .entry)) (now (buf .entry)) place (outcome r (now («bytes_written» .exit)) (now (buf .exit))) ⌝ }
 {
     if is_valid(numbers) {
         let e = encode::encode(record_of(numbers), buf, place);
-        *length = e.length;
+        *bytes_written = e.length;
         return e.refusal as u32;
     }
-    *length = 0;
+    *bytes_written = 0;
     5
 }

@@ -1,4 +1,4 @@
--- What an encoder leaves of the buffer: only the bytes from the place on that were written are touched.
+-- What an encoder leaves: demand 3 allows one outcome, and only the bytes from the place on that were written are touched.
 -- Assumes nothing.
 use Prim.Native.Nat.{ℕ, _+_, _-_, _≤_}
 use mathlib.Core.Path.{_≡_, refl, sym, ap, _∙_}
@@ -10,8 +10,16 @@ use lib.Seq.{length-take-le, take-at, drop-at, drop-drop, take-append-seam, drop
 use lib.Dec.{leb}
 use borrow.Author.Tests.{leb-true}
 use Rattle.tests.specs.Choice.{pick}
+use Rattle.record.specs.declared.Record.{Record}
+use Rattle.rows.specs.Rows.{document01}
 use Rattle.shortest.specs.Says.{Found, bytes, none}
-use Rattle.shortest.specs.Written.{Left, written}
+use Rattle.shortest.specs.Written.{Left, outcome, written, Encodes}
+use Rattle.shortest.proofs.Optimal.{unique}
+
+-- the number, the length and every byte together: no two answers are right, and each is written in one way
+pub encodes-once : (r : Record) (buf : List ℕ) (place : ℕ) (x y : Left) → Encodes r buf place x → Encodes r buf place y → x ≡ y
+encodes-once r buf place x y p q =
+    p .leaves ∙ ap (λ found. written found buf place) (unique document01 r (p .found) (q .found) (p .right) (q .right)) ∙ sym (q .leaves)
 
 -- before the place, from the last byte written on, and as a whole
 pub record Kept (bs : List ℕ) (place : ℕ) (x : Left) : Type 0 where
@@ -25,7 +33,7 @@ kept none bs place = record { before = refl; behind = refl; long = refl }
 kept (bytes xs) bs place = by (leb (place + length xs) (length bs)) refl
   where
     by : (b : Bool) → leb (place + length xs) (length bs) ≡ b
-        → Kept bs place (pick b (record { no = 0; length = length xs; buffer = take place bs ++ (xs ++ drop (place + length xs) bs) }) (record { no = 6; length = 0; buffer = bs }))
+        → Kept bs place (pick b (outcome 0 (length xs) (take place bs ++ (xs ++ drop (place + length xs) bs))) (outcome 6 0 bs))
     by false e = record { before = refl; behind = refl; long = refl }
     by true e =
         let l : place + length xs ≤ length bs = leb-true _ _ e in
@@ -46,7 +54,7 @@ unfolding written
 wrote xs bs place = by (leb (place + length xs) (length bs)) refl
   where
     by : (b : Bool) → leb (place + length xs) (length bs) ≡ b
-        → let x : Left = pick b (record { no = 0; length = length xs; buffer = take place bs ++ (xs ++ drop (place + length xs) bs) }) (record { no = 6; length = 0; buffer = bs }) in
+        → let x : Left = pick b (outcome 0 (length xs) (take place bs ++ (xs ++ drop (place + length xs) bs))) (outcome 6 0 bs) in
         x .no ≡ 0 → take (length xs) (drop place (x .buffer)) ≡ xs
     by false e z = absurd (omega arith)
     by true e z =

@@ -1,20 +1,31 @@
--- What an encoder leaves behind: the number, the length, and each byte of the buffer.
+-- Demand 3: what encoding returns, and what it leaves of the buffer that it was lent.
 use Prim.Native.Nat.{ℕ, _+_}
+use mathlib.Core.Path.{_≡_}
 use mathlib.Core.List.{List, _++_}
 use lib.ListN.{length, take, drop}
 use lib.Dec.{leb}
 use Rattle.tests.specs.Choice.{pick}
-use Rattle.shortest.specs.Says.{Found, bytes, none}
+use Rattle.record.specs.declared.Record.{Record}
+use Rattle.rows.specs.Rows.{document01}
+use Rattle.shortest.specs.Says.{Found, bytes, none, Right}
 
+-- the number, the length, and each byte of the buffer
 pub record Left : Type 0 where
   pub no : ℕ
   pub length : ℕ
   pub buffer : List ℕ
 
+abbrev pub outcome : ℕ → ℕ → List ℕ → Left
+outcome number n bs = record { no = number; length = n; buffer = bs }
+
 -- 5 comes before 6; a place past the end leaves no room even for no bytes, and no answer has fewer than two
 unfoldable pub written : Found → List ℕ → ℕ → Left
-written none bs place = record { no = 5; length = 0; buffer = bs }
+written none bs place = outcome 5 0 bs
 written (bytes xs) bs place =
-    pick (leb (place + length xs) (length bs))
-    (record { no = 0; length = length xs; buffer = take place bs ++ (xs ++ drop (place + length xs) bs) })
-    (record { no = 6; length = 0; buffer = bs })
+    pick (leb (place + length xs) (length bs)) (outcome 0 (length xs) (take place bs ++ (xs ++ drop (place + length xs) bs))) (outcome 6 0 bs)
+
+-- a record encoded into a buffer from a place on: what is found is right by document 01's rows, and is what is written
+pub record Encodes (r : Record) (buf : List ℕ) (place : ℕ) (out : Left) : Type 0 where
+  pub found : Found
+  pub right : Right document01 r found
+  pub leaves : out ≡ written found buf place
