@@ -1,19 +1,20 @@
 -- A line with bytes to decode: which text is one, the bytes that it gives, and when it is right.
 use Prim.Native.Nat.{ℕ}
 use mathlib.Core.Path.{_≡_}
-use mathlib.Core.List.{List, [], _∷_}
+use mathlib.Core.List.{List}
 use lib.ListN.{take}
 use Rattle.record.specs.declared.Answer.{Answer}
 use Rattle.rows.specs.Run.{decodeRows}
+use Rattle.text.specs.Characters.{spelled}
 use Rattle.replay.specs.declared.verdict.Verdict.{Verdict}
-use Rattle.replay.specs.Form.{digits, Gives}
+use Rattle.replay.specs.Form.{Gives}
 use Rattle.replay.specs.Hex.{digitAt, bytesAt}
 use Rattle.replay.specs.Numbers.{numbersIn, numbersOf}
 use Rattle.replay.specs.Verdict.{Judged}
 
--- 32 is a space, 10 the newline
+-- bytes given, eight bytes; refusal, bytes taken; opcode, size, operands; imm_wide, dispabs, length
 abbrev pub form : List ℕ
-form = digits 1 (32 ∷ digits 16 (32 ∷ digits 1 (32 ∷ digits 1 (32 ∷ digits 9 (32 ∷ digits 8 (32 ∷ digits 4 (32 ∷ digits 1 (10 ∷ []))))))))
+form = spelled "# ################ # # ######### ######## #### #\n"
 
 abbrev pub Whole : List ℕ → Type 0
 Whole s = Gives form (digitAt s 0) 8 s

@@ -1,18 +1,14 @@
 -- Lines as pictures: # stands for a hex digit, any other character for itself.
-use Prim.Native.Nat.{ℕ, zero, suc, _≤_, _<_}
+use Prim.Native.Nat.{ℕ, _≤_, _<_}
 use mathlib.Core.Path.{_≡_}
 use mathlib.Core.Bool.{Bool, true}
-use mathlib.Core.List.{List, _∷_}
+use mathlib.Core.List.{List}
 use lib.Dec.{eqb}
 use lib.ListN.{length, getD}
 use Rattle.tests.specs.Choice.{pick}
 use Rattle.replay.specs.Hex.{isDigit}
 
--- so many # (35), and then s
-abbrev pub digits : ℕ → List ℕ → List ℕ
-digits zero s = s
-digits (suc n) s = 35 ∷ digits n s
-
+-- 35 is the #
 abbrev pub fitsAt : ℕ → ℕ → Bool
 fitsAt f c = pick (eqb f 35) (isDigit c) (eqb c f)
 

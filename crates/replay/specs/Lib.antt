@@ -3,4 +3,7 @@ pub mod Form
 pub mod Verdict
 pub mod Numbers
 pub mod Decoding
+pub mod Encoding
 pub mod Sweeping
+pub mod Line
+pub mod Tally

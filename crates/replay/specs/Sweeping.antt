@@ -7,14 +7,15 @@ use lib.ListN.{length, take, replicate}
 use Rattle.tests.specs.Choice.{pick}
 use Rattle.sweep.specs.Sweep.{Sweeps}
 use Rattle.sweep.specs.declared.Swept.{Swept}
+use Rattle.text.specs.Characters.{spelled}
 use Rattle.replay.specs.declared.verdict.Verdict.{Verdict}
-use Rattle.replay.specs.Form.{digits, Gives}
+use Rattle.replay.specs.Form.{Gives}
 use Rattle.replay.specs.Hex.{digitAt, byteAt, wordAt, bytesAt}
 use Rattle.replay.specs.Verdict.{Judged}
 
--- 83 is an S, 32 a space, 10 the newline
+-- bytes given, sixteen bytes; count, stopping place, refusal; a bit for each start
 abbrev pub form : List ℕ
-form = 83 ∷ digits 34 (32 ∷ digits 2 (32 ∷ digits 2 (32 ∷ digits 1 (32 ∷ digits 4 (10 ∷ [])))))
+form = spelled "S################################## ## ## # ####\n"
 
 abbrev pub Whole : List ℕ → Type 0
 Whole s = Gives form (byteAt s 1) 16 s

@@ -9,7 +9,11 @@ mod sweeping;
 mod tally;
 mod verdict;
 
+ghost use mathlib.Core.Path.{_≡_};
 ghost use Prim.Native.Nat.{_≤_, _<_};
+ghost use lib.ListN.{length};
+ghost use Rattle.replay.specs.Line.{Says};
+ghost use Rattle.replay.specs.Tally.{Counted, lineEnd, Tallied};
 use libc::STDIN_FILENO;
 use libc::STDOUT_FILENO;
 use tally::Tally;
@@ -24,7 +28,9 @@ struct Step {
 }
 
 // A line's first character says what it holds: E a record to encode, S an image to sweep, a digit bytes to decode.
-fn judge(line: &[u8]) -> Verdict {
+fn judge(line: &[u8]) -> Verdict
+    ensures { λ r. ⌜ Says r (now (line .entry)) ⌝ }
+{
     if line.len() == 0 {
         return Verdict::Malformed;
     }
@@ -38,7 +44,9 @@ fn judge(line: &[u8]) -> Verdict {
 }
 
 // The first line that differs is written when it is met, so that no later step has to keep it.
-fn replay_line(line: &[u8], t: Tally) -> Tally {
+fn replay_line(line: &[u8], t: Tally) -> Tally
+    ensures { λ r. ⌜ Counted (now (line .entry)) t r ⌝ }
+{
     match judge(line) {
         Verdict::Agrees => t.agreed(),
         Verdict::Differs => {
@@ -54,7 +62,7 @@ fn replay_line(line: &[u8], t: Tally) -> Tally {
 
 fn line_end(at: usize, end: usize) -> usize
     requires { ⌜ at < end ⌝ }
-    ensures { λ r. ⌜ (at < r) × (r ≤ end) ⌝ }
+    ensures { λ r. ⌜ (at < r) × (r ≤ end) × (r ≡ lineEnd at end) ⌝ }
 {
     if end - at < 49 {
         return end;
@@ -63,7 +71,9 @@ fn line_end(at: usize, end: usize) -> usize
 }
 
 // What is left over at the end is a line too, and a malformed one.
-fn replay_lines(text: &[u8], t: Tally) -> Tally {
+fn replay_lines(text: &[u8], t: Tally) -> Tally
+    ensures { λ r. ⌜ Tallied (now (text .entry)) (length (now (text .entry))) t r ⌝ }
+{
     let mut tally = t;
     let mut at: usize = 0;
     while at < text.len() {
