@@ -26,6 +26,9 @@ go bs (suc k) p = pick (leb (length bs) p) (ended (endText p)) (turn p (decodeRo
 abbrev pub listed : List ℕ → ℕ → List ℕ
 listed bs p = go bs (length bs - p) p
 
+abbrev pub tooLongText : List ℕ
+tooLongText = spelled "REFUSED 7\n"
+
 -- an image of more than 4,096 bytes is refused
 unfoldable pub listing : List ℕ → List ℕ
-listing bs = pick (ltb 4096 (length bs)) (spelled "REFUSED 7\n") (listed bs 0)
+listing bs = pick (ltb 4096 (length bs)) tooLongText (listed bs 0)

@@ -1,22 +1,49 @@
 // A listing in pieces: as many whole lines as fit into a buffer.
 ghost use mathlib.Core.Path.{_≡_};
-ghost use Prim.Native.Nat.{_+_, _≤_, _<_};
+ghost use mathlib.Core.List.{List};
+ghost use Prim.Native.Nat.{ℕ, _+_, _≤_, _<_};
 ghost use lib.ListN.{length, set};
 ghost use Rattle.text.specs.Left.{over};
 ghost use Rattle.text.specs.Line.{lineOf, endText, refusedText};
-ghost use Rattle.pages.specs.Listing.{ended};
-ghost use Rattle.pages.specs.Page.{Filled};
+ghost use Rattle.pages.specs.Listing.{ended, listing};
+ghost use Rattle.pages.specs.Page.{toList, isMore, Filled};
 use record::Record;
 use text::Written;
 
 // No line is longer, its newline included.
 const ROOM: usize = 113;
 
-// The bytes filled, the place to go on from, and whether nothing is left to list.
+// What is still to be listed: that the image is too long, the lines from a place on, or nothing.
+pub enum Next {
+    TooLong,
+    From(usize),
+    Nothing,
+}
+
+// The bytes filled, and what is to be listed behind them.
 pub struct Page {
     pub length: usize,
-    pub place: usize,
-    pub done: bool,
+    pub next: Next,
+}
+
+// An image of more than 4,096 bytes is refused.
+pub fn first(image: &[u8]) -> Next
+    ensures { λ r. ⌜ toList (now (image .entry)) r ≡ listing (now (image .entry)) ⌝ }
+{
+    if 4096 < image.len() {
+        return Next::TooLong;
+    }
+    Next::From(0)
+}
+
+pub fn is_more(next: Next) -> bool
+    ensures { λ r. ⌜ r ≡ isMore next ⌝ }
+{
+    match next {
+        Next::TooLong => true,
+        Next::From(_) => true,
+        Next::Nothing => false,
+    }
 }
 
 // The newline behind what was written.
@@ -54,8 +81,8 @@ fn put_refused(place: usize, refusal: u8, taken: usize, out: &mut [u8]) -> usize
 }
 
 // What is listed of an image from a place on, as far as whole lines fit.
-pub fn fill(image: &[u8], from: usize, out: &mut [u8]) -> Page
-    ensures { λ r. ⌜ Filled (now (image .entry)) from (length (now (out .entry))) r (now (out .exit)) ⌝ }
+fn fill_lines(image: &[u8], from: usize, out: &mut [u8]) -> Page
+    ensures { λ r. ⌜ Filled (now (image .entry)) (Next.From from) (length (now (out .entry))) r (now (out .exit)) ⌝ }
 {
     let mut at: usize = 0;
     let mut place = from;
@@ -64,8 +91,7 @@ pub fn fill(image: &[u8], from: usize, out: &mut [u8]) -> Page
             let n = put_end(place, &mut out[at..]);
             return Page {
                 length: at + n,
-                place: place,
-                done: true,
+                next: Next::Nothing,
             };
         }
         let a = decode::decode(image, place);
@@ -73,8 +99,7 @@ pub fn fill(image: &[u8], from: usize, out: &mut [u8]) -> Page
             let n = put_refused(place, a.refusal, a.taken, &mut out[at..]);
             return Page {
                 length: at + n,
-                place: place,
-                done: true,
+                next: Next::Nothing,
             };
         }
         let inst = a.inst;
@@ -83,7 +108,35 @@ pub fn fill(image: &[u8], from: usize, out: &mut [u8]) -> Page
     }
     Page {
         length: at,
-        place: place,
-        done: false,
+        next: Next::From(place),
+    }
+}
+
+fn fill_too_long(out: &mut [u8]) -> Page
+    ensures { λ r. ⌜ ((image : List ℕ) → Filled image Next.TooLong (length (now (out .entry))) r (now (out .exit))) ⌝ }
+{
+    if out.len() < ROOM {
+        return Page {
+            length: 0,
+            next: Next::TooLong,
+        };
+    }
+    Page {
+        length: bytes::copy(b"REFUSED 7\n", out),
+        next: Next::Nothing,
+    }
+}
+
+// The next page of a listing.
+pub fn fill(image: &[u8], next: Next, out: &mut [u8]) -> Page
+    ensures { λ r. ⌜ Filled (now (image .entry)) next (length (now (out .entry))) r (now (out .exit)) ⌝ }
+{
+    match next {
+        Next::TooLong => fill_too_long(out),
+        Next::From(place) => fill_lines(image, place, out),
+        Next::Nothing => Page {
+            length: 0,
+            next: Next::Nothing,
+        },
     }
 }

@@ -1,1 +1,4 @@
 pub mod Answer
+pub mod Encoded
+pub mod Places
+pub mod Swept

@@ -1,7 +1,7 @@
 -- The value of upper-case hex digits, in ASCII: 0 to 9 are 48 to 57, A to F are 65 to 70.
-use Prim.Native.Nat.{ℕ, _+_, _-_, _*_}
+use Prim.Native.Nat.{ℕ, zero, suc, _+_, _-_, _*_}
 use mathlib.Core.Bool.{Bool}
-use mathlib.Core.List.{List}
+use mathlib.Core.List.{List, [], _∷_}
 use lib.Dec.{leb}
 use lib.ListN.{getD}
 use Rattle.tests.specs.Choice.{pick, both, either}
@@ -25,3 +25,8 @@ wordAt s at = 256 * byteAt s at + byteAt s (at + 2)
 
 abbrev pub longAt : List ℕ → ℕ → ℕ
 longAt s at = 65536 * wordAt s at + wordAt s (at + 4)
+
+-- so many bytes from a place on
+abbrev pub bytesAt : ℕ → List ℕ → ℕ → List ℕ
+bytesAt zero s at = []
+bytesAt (suc n) s at = byteAt s at ∷ bytesAt n s (at + 2)

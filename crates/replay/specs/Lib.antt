@@ -1,3 +1,9 @@
 pub mod Hex
-pub mod Line
+pub mod Form
+pub mod Verdict
 pub mod Numbers
+pub mod Decoding
+pub mod Encoding
+pub mod Sweeping
+pub mod Line
+pub mod Tally

@@ -1,13 +1,24 @@
 // A line with a record, and what encoding it gives.
 ghost use mathlib.Core.Path.{_≡_};
 ghost use lib.ListN.{length};
+ghost use Rattle.replay.specs.Verdict.{Tells};
+ghost use Rattle.replay.specs.Encoding.{Whole, recordIn, bytesIn, Right, Says};
 use crate::form;
 use crate::hex;
-use crate::line::Verdict;
+use crate::verdict::Verdict;
+
+// Opcode, size, width, operands; imm_wide; dispabs and first; refusal, length, seven bytes.
+fn is_whole(line: &[u8]) -> bool
+    ensures { λ r. ⌜ Tells r (Whole (now (line .entry))) ⌝ }
+{
+    let form = b"E########## ######## ######## # # ##############\n";
+    form::has(line, form)
+}
 
 // The twelve numbers of a record, as the C library takes them.
-fn numbers_in(line: &[u8]) -> [u32; 12]
+fn record_in(line: &[u8]) -> [u32; 12]
     requires { ⌜ length (now line) ≡ 49 ⌝ }
+    ensures { λ r. ⌜ r ≡ recordIn (now (line .entry)) ⌝ }
 {
     [
         0,
@@ -25,24 +36,27 @@ fn numbers_in(line: &[u8]) -> [u32; 12]
     ]
 }
 
-// Whether seven bytes are those that a line gives, the ones that were not written 0.
-fn are_bytes(buf: &[u8], line: &[u8]) -> bool
-    requires { ⌜ (length (now buf) ≡ 7) × (length (now line) ≡ 49) ⌝ }
+// The seven bytes that a line gives, 0 where none is written.
+fn bytes_in(line: &[u8]) -> [u8; 7]
+    requires { ⌜ length (now line) ≡ 49 ⌝ }
+    ensures { λ r. ⌜ r ≡ bytesIn (now (line .entry)) ⌝ }
 {
-    let mut k: usize = 0;
-    while k < 7 {
-        if buf[k] != hex::byte_at(line, 34 + 2 * k) {
-            return false;
-        }
-        k += 1;
-    }
-    true
+    [
+        hex::byte_at(line, 34),
+        hex::byte_at(line, 36),
+        hex::byte_at(line, 38),
+        hex::byte_at(line, 40),
+        hex::byte_at(line, 42),
+        hex::byte_at(line, 44),
+        hex::byte_at(line, 46),
+    ]
 }
 
 fn agrees(line: &[u8]) -> bool
-    requires { ⌜ length (now line) ≡ 49 ⌝ }
+    requires { ⌜ Whole (now line) ⌝ }
+    ensures { λ r. ⌜ Tells r (Right (now (line .entry))) ⌝ }
 {
-    let numbers = numbers_in(line);
+    let numbers = record_in(line);
     let mut buf = [0u8; 7];
     let mut written: usize = 0;
     let refusal = m16c_encode::m16c_encode(&numbers, &mut buf, 0, &mut written);
@@ -52,23 +66,18 @@ fn agrees(line: &[u8]) -> bool
     if written != (hex::digit_at(line, 32) as usize) {
         return false;
     }
-    are_bytes(&buf, line)
+    let bytes = bytes_in(line);
+    check::same(&buf, &bytes)
 }
 
-fn compare(line: &[u8]) -> Verdict
-    requires { ⌜ length (now line) ≡ 49 ⌝ }
+pub(crate) fn judge(line: &[u8]) -> Verdict
+    ensures { λ r. ⌜ Says r (now (line .entry)) ⌝ }
 {
-    if agrees(line) {
-        return Verdict::Agrees;
-    }
-    Verdict::Differs
-}
-
-// Opcode, size, width, operands; imm_wide; dispabs and first; refusal, length, seven bytes.
-pub(crate) fn judge(line: &[u8]) -> Verdict {
-    let form = b"E########## ######## ######## # # ##############\n";
-    if form::has(line, form) {
-        return compare(line);
+    if is_whole(line) {
+        if agrees(line) {
+            return Verdict::Agrees;
+        }
+        return Verdict::Differs;
     }
     Verdict::Malformed
 }

@@ -1,18 +1,23 @@
 // Replays the stored list of answers: decodes, encodes or sweeps what each line of its input gives, and compares.
 // Its last line of output counts the answers compared, those that differ and, if there are any, the malformed lines.
+mod decoding;
 mod encoding;
 mod form;
 mod hex;
-mod line;
 mod numbers;
 mod sweeping;
 mod tally;
+mod verdict;
 
+ghost use mathlib.Core.Path.{_≡_};
 ghost use Prim.Native.Nat.{_≤_, _<_};
+ghost use lib.ListN.{length};
+ghost use Rattle.replay.specs.Line.{Says};
+ghost use Rattle.replay.specs.Tally.{Counted, lineEnd, Tallied};
 use libc::STDIN_FILENO;
 use libc::STDOUT_FILENO;
-use line::Verdict;
 use tally::Tally;
+use verdict::Verdict;
 
 // 80 lines of 49 characters.
 const PIECE: usize = 80 * 49;
@@ -23,7 +28,9 @@ struct Step {
 }
 
 // A line's first character says what it holds: E a record to encode, S an image to sweep, a digit bytes to decode.
-fn judge(line: &[u8]) -> Verdict {
+fn judge(line: &[u8]) -> Verdict
+    ensures { λ r. ⌜ Says r (now (line .entry)) ⌝ }
+{
     if line.len() == 0 {
         return Verdict::Malformed;
     }
@@ -33,11 +40,13 @@ fn judge(line: &[u8]) -> Verdict {
     if line[0] == b'S' {
         return sweeping::judge(line);
     }
-    line::judge(line)
+    decoding::judge(line)
 }
 
 // The first line that differs is written when it is met, so that no later step has to keep it.
-fn replay_line(line: &[u8], t: Tally) -> Tally {
+fn replay_line(line: &[u8], t: Tally) -> Tally
+    ensures { λ r. ⌜ Counted (now (line .entry)) t r ⌝ }
+{
     match judge(line) {
         Verdict::Agrees => t.agreed(),
         Verdict::Differs => {
@@ -53,7 +62,7 @@ fn replay_line(line: &[u8], t: Tally) -> Tally {
 
 fn line_end(at: usize, end: usize) -> usize
     requires { ⌜ at < end ⌝ }
-    ensures { λ r. ⌜ (at < r) × (r ≤ end) ⌝ }
+    ensures { λ r. ⌜ (at < r) × (r ≤ end) × (r ≡ lineEnd at end) ⌝ }
 {
     if end - at < 49 {
         return end;
@@ -62,7 +71,9 @@ fn line_end(at: usize, end: usize) -> usize
 }
 
 // What is left over at the end is a line too, and a malformed one.
-fn replay_lines(text: &[u8], t: Tally) -> Tally {
+fn replay_lines(text: &[u8], t: Tally) -> Tally
+    ensures { λ r. ⌜ Tallied (now (text .entry)) (length (now (text .entry))) t r ⌝ }
+{
     let mut tally = t;
     let mut at: usize = 0;
     while at < text.len() {

@@ -1,14 +1,28 @@
-// A line with an image and what sweeping it gives.
+// A line with an image, and what sweeping it gives.
 ghost use mathlib.Core.Path.{_≡_};
-ghost use Prim.Native.Nat.{_≤_};
 ghost use lib.ListN.{length};
+ghost use Rattle.sweep.specs.Sweep.{Sweeps};
+ghost use Rattle.replay.specs.Verdict.{Tells};
+ghost use Rattle.replay.specs.Sweeping.{Whole, bytesIn, imageIn, sweptIn, places, Begins, Right, Says};
 use crate::form;
 use crate::hex;
-use crate::line::Verdict;
+use crate::verdict::Verdict;
 use sweep::Swept;
 
-fn image_in(line: &[u8]) -> [u8; 16]
+// Bytes given, at most sixteen; sixteen bytes; count, stopping place, refusal; a bit for each start.
+fn is_whole(line: &[u8]) -> bool
+    ensures { λ r. ⌜ Tells r (Whole (now (line .entry))) ⌝ }
+{
+    let form = b"S################################## ## ## # ####\n";
+    if form::has(line, form) {
+        return hex::byte_at(line, 1) <= 16;
+    }
+    false
+}
+
+fn bytes_in(line: &[u8]) -> [u8; 16]
     requires { ⌜ length (now line) ≡ 49 ⌝ }
+    ensures { λ r. ⌜ r ≡ bytesIn (now (line .entry)) ⌝ }
 {
     [
         hex::byte_at(line, 3),
@@ -31,7 +45,9 @@ fn image_in(line: &[u8]) -> [u8; 16]
 }
 
 // Whether the first so many starts are the places of a word's bits, the first place's the highest.
-fn are_bits(starts: &[u16], count: usize, bits: u16) -> bool {
+fn are_bits(starts: &[u16], count: usize, bits: u16) -> bool
+    ensures { λ r. ⌜ Tells r (Begins count (now (starts .entry)) (places 16 bits)) ⌝ }
+{
     let mut left = count;
     let mut rest = bits;
     let mut place: u16 = 16;
@@ -55,48 +71,61 @@ fn are_bits(starts: &[u16], count: usize, bits: u16) -> bool {
 }
 
 // What the sweep says of the image that a line gives.
-fn swept(line: &[u8], given: usize, starts: &mut [u16]) -> Swept
-    requires { ⌜ (length (now line) ≡ 49) × (given ≤ 16) ⌝ }
+fn swept(line: &[u8], starts: &mut [u16]) -> Swept
+    requires { ⌜ Whole (now line) ⌝ }
+    ensures { λ r. ⌜ Sweeps (imageIn (now (line .entry))) (now (starts .entry)) r (now (starts .exit)) ⌝ }
 {
-    let image = image_in(line);
-    sweep::sweep(&image[..given], starts)
+    let bytes = bytes_in(line);
+    let given = hex::byte_at(line, 1) as usize;
+    sweep::sweep(&bytes[..given], starts)
 }
 
-fn agrees(line: &[u8], given: usize) -> bool
-    requires { ⌜ (length (now line) ≡ 49) × (given ≤ 16) ⌝ }
+fn same(x: Swept, y: Swept) -> bool
+    ensures { λ r. ⌜ Tells r (x ≡ y) ⌝ }
+{
+    if x.refusal != y.refusal {
+        return false;
+    }
+    if x.count != y.count {
+        return false;
+    }
+    if x.place != y.place {
+        return false;
+    }
+    true
+}
+
+fn swept_in(line: &[u8]) -> Swept
+    requires { ⌜ length (now line) ≡ 49 ⌝ }
+    ensures { λ r. ⌜ r ≡ sweptIn (now (line .entry)) ⌝ }
+{
+    Swept {
+        refusal: hex::digit_at(line, 42),
+        count: hex::byte_at(line, 36) as usize,
+        place: hex::byte_at(line, 39) as usize,
+    }
+}
+
+fn agrees(line: &[u8]) -> bool
+    requires { ⌜ Whole (now line) ⌝ }
+    ensures { λ r. ⌜ Tells r (Right (now (line .entry))) ⌝ }
 {
     let mut starts = [0u16; 16];
-    let s = swept(line, given, &mut starts);
-    if s.count != (hex::byte_at(line, 36) as usize) {
-        return false;
+    let s = swept(line, &mut starts);
+    if same(s, swept_in(line)) {
+        return are_bits(&starts, s.count, hex::word_at(line, 44));
     }
-    if s.place != (hex::byte_at(line, 39) as usize) {
-        return false;
-    }
-    if s.refusal != hex::digit_at(line, 42) {
-        return false;
-    }
-    are_bits(&starts, s.count, hex::word_at(line, 44))
+    false
 }
 
-fn compare(line: &[u8]) -> Verdict
-    requires { ⌜ length (now line) ≡ 49 ⌝ }
+pub(crate) fn judge(line: &[u8]) -> Verdict
+    ensures { λ r. ⌜ Says r (now (line .entry)) ⌝ }
 {
-    let given = hex::byte_at(line, 1) as usize;
-    if 16 < given {
-        return Verdict::Malformed;
-    }
-    if agrees(line, given) {
-        return Verdict::Agrees;
-    }
-    Verdict::Differs
-}
-
-// Bytes given, sixteen bytes; count, stopping place, refusal; a bit for each start.
-pub(crate) fn judge(line: &[u8]) -> Verdict {
-    let form = b"S################################## ## ## # ####\n";
-    if form::has(line, form) {
-        return compare(line);
+    if is_whole(line) {
+        if agrees(line) {
+            return Verdict::Agrees;
+        }
+        return Verdict::Differs;
     }
     Verdict::Malformed
 }

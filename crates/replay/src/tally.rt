@@ -1,4 +1,7 @@
 // How many lines of each verdict were met. No run reads 2 ^ 64 lines, so no count wraps.
+ghost use mathlib.Core.Path.{_≡_};
+ghost use Rattle.replay.specs.Tally.{tally, counted};
+use crate::verdict::Verdict;
 use std::num::wrapping_add_u64;
 
 pub struct Tally {
@@ -10,7 +13,9 @@ pub struct Tally {
 }
 
 impl Tally {
-    pub fn new() -> Self {
+    pub fn new() -> Self
+        ensures { λ r. ⌜ r ≡ tally 0 0 0 0 ⌝ }
+    {
         Tally {
             answers: 0,
             differ: 0,
@@ -19,18 +24,24 @@ impl Tally {
         }
     }
 
-    pub fn agreed(mut self) -> Self {
+    pub fn agreed(mut self) -> Self
+        ensures { λ r. ⌜ r ≡ counted Verdict.Agrees self ⌝ }
+    {
         self.answers = wrapping_add_u64(self.answers, 1);
         self
     }
 
-    pub fn differed(mut self) -> Self {
+    pub fn differed(mut self) -> Self
+        ensures { λ r. ⌜ r ≡ counted Verdict.Differs self ⌝ }
+    {
         self.answers = wrapping_add_u64(self.answers, 1);
         self.differ = wrapping_add_u64(self.differ, 1);
         self
     }
 
-    pub fn malformed(mut self) -> Self {
+    pub fn malformed(mut self) -> Self
+        ensures { λ r. ⌜ r ≡ counted Verdict.Malformed self ⌝ }
+    {
         self.malformed = wrapping_add_u64(self.malformed, 1);
         if self.malformed == 1 {
             self.first_malformed = wrapping_add_u64(self.answers, 1);

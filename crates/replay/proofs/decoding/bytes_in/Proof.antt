@@ -1,8 +1,8 @@
--- `replay::line::bytes_in` meets its contract: each element is the byte that the reader ensures.
+-- `replay::decoding::bytes_in` meets its contract: each element is the byte that the reader ensures.
 -- Assumes nothing.
 use borrow.Author.Needs.{needs}
-use Rattle.replay.proofs.line.bytes_in.Statement.{statement}
-use Rattle.replay.proofs.line.bytes_in.Tie as tie
+use Rattle.replay.proofs.decoding.bytes_in.Statement.{statement}
+use Rattle.replay.proofs.decoding.bytes_in.Tie as tie
 
 returns : tie.Need-returns
 returns c = cc

@@ -1,9 +1,9 @@
--- `replay::line::fits` meets its contract.
+-- `replay::form::fits` meets its contract.
 -- Assumes nothing.
 use borrow.Author.Needs.{needs}
 use borrow.Author.Tests.{eq-eqb, ne-eqb}
-use Rattle.replay.proofs.line.fits.Statement.{statement}
-use Rattle.replay.proofs.line.fits.Tie as tie
+use Rattle.replay.proofs.form.fits.Statement.{statement}
+use Rattle.replay.proofs.form.fits.Tie as tie
 
 returns : tie.Need-returns
 returns c = rw (eq-eqb _ 35 (c .before .if1 .taken)) (c .is-digit .ensures)

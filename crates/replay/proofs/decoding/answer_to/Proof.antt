@@ -1,10 +1,10 @@
--- `replay::line::answer_to` meets its contract.
+-- `replay::decoding::answer_to` meets its contract.
 -- Assumes nothing.
 use mathlib.Core.Path.{sym}
 use lib.Seq.{length-take-le}
 use borrow.Author.Needs.{needs}
-use Rattle.replay.proofs.line.answer_to.Statement.{statement}
-use Rattle.replay.proofs.line.answer_to.Tie as tie
+use Rattle.replay.proofs.decoding.answer_to.Statement.{statement}
+use Rattle.replay.proofs.decoding.answer_to.Tie as tie
 
 array-share-prefix-bytes : tie.Need-array-share-prefix-bytes
 array-share-prefix-bytes c = rw (c .before .bytes-in .ensures, c .digit-at .ensures .0) (c .before .before .before .pre .few)

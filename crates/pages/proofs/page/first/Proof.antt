@@ -1,0 +1,17 @@
+-- `pages::page::first` meets its contract.
+-- Assumes nothing.
+use borrow.Author.Tests.{lt-ltb, le-ltb}
+use Rattle.pages.specs.Listing.{listing}
+use Rattle.pages.proofs.page.first.Statement.{statement}
+use Rattle.pages.proofs.page.first.Tie as tie
+
+returns : tie.Need-returns
+unfolding listing
+returns c = rw (lt-ltb 4096 _ (c .if1 .taken))
+
+returns-2 : tie.Need-returns-2
+unfolding listing
+returns-2 c = rw (le-ltb 4096 _ (c .if1 .left))
+
+pub first-spec : {M : Type 1} → statement M
+first-spec = tie.close (tie.spec returns returns-2)

@@ -1,0 +1,24 @@
+-- A line is right if the sweep did what it says, and only then.
+-- Assumes nothing.
+use Prim.Native.Nat.{ℕ}
+use mathlib.Core.Path.{_≡_, sym, ap, subst}
+use mathlib.Core.List.{List}
+use lib.ListN.{replicate}
+use Rattle.sweep.specs.Sweep.{Sweeps}
+use Rattle.sweep.specs.declared.Swept.{Swept}
+use Rattle.sweep.proofs.Outcomes.{sweeps-once}
+use Rattle.replay.specs.Hex.{wordAt}
+use Rattle.replay.specs.Sweeping.{imageIn, sweptIn, places, Begins, Right}
+
+module _ (s : List ℕ) {r : Swept} {starts : List ℕ} (done : Sweeps (imageIn s) (replicate 16 0) r starts) where
+  pub right : r ≡ sweptIn s → Begins (r .count) starts (places 16 (wordAt s 44)) → Right s
+  right e b = record { after = starts; sweeps = subst (λ x. Sweeps (imageIn s) (replicate 16 0) x starts) e done; starts = subst (λ x. Begins (x .count) starts (places 16 (wordAt s 44))) e b }
+
+  pub returned : Right s → r ≡ sweptIn s
+  returned h = sweeps-once done (h .sweeps) .0
+
+  pub begins : Right s → Begins (r .count) starts (places 16 (wordAt s 44))
+  begins h =
+      let once = sweeps-once (h .sweeps) done in
+      subst (λ x. Begins (x .count) starts (places 16 (wordAt s 44))) (once .0)
+      (subst (λ z. Begins (sweptIn s .count) z (places 16 (wordAt s 44))) (once .1) (h .starts))

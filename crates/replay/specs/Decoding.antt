@@ -1,0 +1,33 @@
+-- A line with bytes to decode: which text is one, the bytes that it gives, and when it is right.
+use Prim.Native.Nat.{ℕ}
+use mathlib.Core.Path.{_≡_}
+use mathlib.Core.List.{List}
+use lib.ListN.{take}
+use Rattle.record.specs.declared.Answer.{Answer}
+use Rattle.rows.specs.Run.{decodeRows}
+use Rattle.text.specs.Characters.{spelled}
+use Rattle.replay.specs.declared.verdict.Verdict.{Verdict}
+use Rattle.replay.specs.Form.{Gives}
+use Rattle.replay.specs.Hex.{digitAt, bytesAt}
+use Rattle.replay.specs.Numbers.{numbersIn, numbersOf}
+use Rattle.replay.specs.Verdict.{Judged}
+
+-- bytes given, eight bytes; refusal, bytes taken; opcode, size, operands; imm_wide, dispabs, length
+abbrev pub form : List ℕ
+form = spelled "# ################ # # ######### ######## #### #\n"
+
+abbrev pub Whole : List ℕ → Type 0
+Whole s = Gives form (digitAt s 0) 8 s
+
+abbrev pub bytesIn : List ℕ → List ℕ
+bytesIn s = bytesAt 8 s 2
+
+-- what the rows of document 01 say of the bytes that a line gives
+abbrev pub answerTo : List ℕ → Answer
+answerTo s = decodeRows (take (digitAt s 0) (bytesIn s))
+
+abbrev pub Right : List ℕ → Type 0
+Right s = numbersIn s ≡ numbersOf (answerTo s)
+
+abbrev pub Says : Verdict → List ℕ → Type 0
+Says v s = Judged (Whole s) (Right s) v

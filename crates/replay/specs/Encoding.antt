@@ -1,0 +1,35 @@
+-- A line with a record to encode: which text is one, the record that it gives, and when it is right.
+use Prim.Native.Nat.{ℕ}
+use mathlib.Core.List.{List, [], _∷_}
+use lib.ListN.{replicate}
+use Rattle.shortest.specs.Written.{Left, outcome}
+use Rattle.m16c_encode.specs.Numbers.{EncodesNumbers}
+use Rattle.text.specs.Characters.{spelled}
+use Rattle.replay.specs.declared.verdict.Verdict.{Verdict}
+use Rattle.replay.specs.Form.{Has}
+use Rattle.replay.specs.Hex.{digitAt, byteAt, wordAt, longAt, bytesAt}
+use Rattle.replay.specs.Verdict.{Judged}
+
+-- opcode, size, width, operands; imm_wide; dispabs and first; refusal, length, seven bytes
+abbrev pub form : List ℕ
+form = spelled "E########## ######## ######## # # ##############\n"
+
+abbrev pub Whole : List ℕ → Type 0
+Whole s = Has form s
+
+-- in the order of the C library; taken, length and marked, which do not count, are 0
+abbrev pub recordIn : List ℕ → List ℕ
+recordIn s = 0 ∷ byteAt s 1 ∷ digitAt s 3 ∷ digitAt s 4 ∷ byteAt s 5 ∷ byteAt s 7 ∷ byteAt s 9 ∷ longAt s 12 ∷ wordAt s 21 ∷ wordAt s 25 ∷ 0 ∷ 0 ∷ []
+
+abbrev pub bytesIn : List ℕ → List ℕ
+bytesIn s = bytesAt 7 s 34
+
+abbrev pub outcomeIn : List ℕ → Left
+outcomeIn s = outcome (digitAt s 30) (digitAt s 32) (bytesIn s)
+
+-- the record, encoded from the first of seven zero bytes on, gives what the line says
+abbrev pub Right : List ℕ → Type 0
+Right s = EncodesNumbers (recordIn s) (replicate 7 0) 0 (outcomeIn s)
+
+abbrev pub Says : Verdict → List ℕ → Type 0
+Says v s = Judged (Whole s) (Right s) v

@@ -1,0 +1,49 @@
+-- A line with an image to sweep: which text is one, the image that it gives, and when it is right.
+use Prim.Native.Nat.{ℕ, zero, suc, _/_, _%_, _≤_}
+use mathlib.Core.Path.{_≡_}
+use mathlib.Core.List.{List, [], _∷_, _++_}
+use lib.Dec.{eqb}
+use lib.ListN.{length, take, replicate}
+use Rattle.tests.specs.Choice.{pick}
+use Rattle.sweep.specs.Sweep.{Sweeps}
+use Rattle.sweep.specs.declared.Swept.{Swept}
+use Rattle.text.specs.Characters.{spelled}
+use Rattle.replay.specs.declared.verdict.Verdict.{Verdict}
+use Rattle.replay.specs.Form.{Gives}
+use Rattle.replay.specs.Hex.{digitAt, byteAt, wordAt, bytesAt}
+use Rattle.replay.specs.Verdict.{Judged}
+
+-- bytes given, sixteen bytes; count, stopping place, refusal; a bit for each start
+abbrev pub form : List ℕ
+form = spelled "S################################## ## ## # ####\n"
+
+abbrev pub Whole : List ℕ → Type 0
+Whole s = Gives form (byteAt s 1) 16 s
+
+abbrev pub bytesIn : List ℕ → List ℕ
+bytesIn s = bytesAt 16 s 3
+
+abbrev pub imageIn : List ℕ → List ℕ
+imageIn s = take (byteAt s 1) (bytesIn s)
+
+abbrev pub sweptIn : List ℕ → Swept
+sweptIn s = record { refusal = digitAt s 42; count = byteAt s 36; place = byteAt s 39 }
+
+-- the places of the bits that are set among a word's low n, the highest of them place 0
+unfoldable pub places : ℕ → ℕ → List ℕ
+places zero w = []
+places (suc n) w = places n (w / 2) ++ pick (eqb (w % 2) 1) (n ∷ []) []
+
+-- the first n entries, of at least as many, are these
+pub record Begins (n : ℕ) (entries these : List ℕ) : Type 0 where
+  pub enough : n ≤ length entries
+  pub same : take n entries ≡ these
+
+-- the sweep of the image, lent sixteen zeros, returns what the line says, and leaves starts that begin with the places of its bits
+pub record Right (s : List ℕ) : Type 0 where
+  pub after : List ℕ
+  pub sweeps : Sweeps (imageIn s) (replicate 16 0) (sweptIn s) after
+  pub starts : Begins (byteAt s 36) after (places 16 (wordAt s 44))
+
+abbrev pub Says : Verdict → List ℕ → Type 0
+Says v s = Judged (Whole s) (Right s) v

@@ -1,0 +1,6 @@
+// What replaying a line of the stored list shows.
+pub enum Verdict {
+    Agrees,
+    Differs,
+    Malformed,
+}
