@@ -1,2 +1,2 @@
 pub mod Valid
-pub mod Outcome
+pub mod Outcomes

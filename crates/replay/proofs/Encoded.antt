@@ -6,7 +6,7 @@ use mathlib.Core.List.{List}
 use lib.ListN.{replicate}
 use Rattle.shortest.specs.Written.{Left}
 use Rattle.m16c_encode.specs.Numbers.{EncodesNumbers}
-use Rattle.m16c_encode.proofs.Outcome.{encodes-numbers-once}
+use Rattle.m16c_encode.proofs.Outcomes.{encodes-numbers-once}
 use Rattle.replay.specs.Encoding.{recordIn, outcomeIn, Right}
 
 module _ (s : List ℕ) {ns : List ℕ} (read : ns ≡ recordIn s) {out : Left} (done : EncodesNumbers ns (replicate 7 0) 0 out) where

@@ -1,6 +1,6 @@
 -- `replay::sweeping::swept` meets its contract: the bytes given are the first of the line's.
 -- Assumes nothing.
-use mathlib.Core.Path.{sym, _∙_}
+use mathlib.Core.Path.{sym}
 use lib.Seq.{length-take-le}
 use borrow.Author.Needs.{needs}
 use Rattle.replay.proofs.sweeping.swept.Statement.{statement}
