@@ -19,12 +19,9 @@ form = spelled "# ################ # # ######### ######## #### #\n"
 abbrev pub Whole : List ℕ → Type 0
 Whole s = Gives form (digitAt s 0) 8 s
 
-abbrev pub bytesIn : List ℕ → List ℕ
-bytesIn s = bytesAt 8 s 2
-
 -- what the rows of document 01 say of the bytes that a line gives
 abbrev pub answerTo : List ℕ → Answer
-answerTo s = decodeRows (take (digitAt s 0) (bytesIn s))
+answerTo s = decodeRows (take (digitAt s 0) (bytesAt 8 s 2))
 
 abbrev pub Right : List ℕ → Type 0
 Right s = numbersIn s ≡ numbersOf (answerTo s)

@@ -21,11 +21,8 @@ Whole s = Has form s
 abbrev pub recordIn : List ℕ → List ℕ
 recordIn s = 0 ∷ byteAt s 1 ∷ digitAt s 3 ∷ digitAt s 4 ∷ byteAt s 5 ∷ byteAt s 7 ∷ byteAt s 9 ∷ longAt s 12 ∷ wordAt s 21 ∷ wordAt s 25 ∷ 0 ∷ 0 ∷ []
 
-abbrev pub bytesIn : List ℕ → List ℕ
-bytesIn s = bytesAt 7 s 34
-
 abbrev pub outcomeIn : List ℕ → Left
-outcomeIn s = outcome (digitAt s 30) (digitAt s 32) (bytesIn s)
+outcomeIn s = outcome (digitAt s 30) (digitAt s 32) (bytesAt 7 s 34)
 
 -- the record, encoded from the first of seven zero bytes on, gives what the line says
 abbrev pub Right : List ℕ → Type 0

@@ -20,11 +20,8 @@ form = spelled "S################################## ## ## # ####\n"
 abbrev pub Whole : List ℕ → Type 0
 Whole s = Gives form (byteAt s 1) 16 s
 
-abbrev pub bytesIn : List ℕ → List ℕ
-bytesIn s = bytesAt 16 s 3
-
 abbrev pub imageIn : List ℕ → List ℕ
-imageIn s = take (byteAt s 1) (bytesIn s)
+imageIn s = take (byteAt s 1) (bytesAt 16 s 3)
 
 abbrev pub sweptIn : List ℕ → Swept
 sweptIn s = record { refusal = digitAt s 42; count = byteAt s 36; place = byteAt s 39 }
