@@ -1,7 +1,7 @@
 -- A line is right if the sweep did what it says, and only then.
 -- Assumes nothing.
 use Prim.Native.Nat.{ℕ}
-use mathlib.Core.Path.{_≡_, sym, ap, subst}
+use mathlib.Core.Path.{_≡_, subst}
 use mathlib.Core.List.{List}
 use lib.ListN.{replicate}
 use Rattle.sweep.specs.Sweep.{Sweeps}

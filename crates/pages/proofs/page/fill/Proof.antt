@@ -1,9 +1,8 @@
 -- `pages::page::fill` meets its contract.
 -- Assumes nothing.
-use mathlib.Core.Path.{refl, sym, ap, _∙_}
+use mathlib.Core.Path.{refl}
 use mathlib.Core.Bool.{false≢true}
 use borrow.Author.Needs.{needs}
-use Rattle.pages.specs.Page.{toList, isMore}
 use Rattle.pages.proofs.page.fill.Statement.{statement}
 use Rattle.pages.proofs.page.fill.Tie as tie
 
