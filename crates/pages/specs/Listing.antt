@@ -26,6 +26,7 @@ go bs (suc k) p = pick (leb (length bs) p) (ended (endText p)) (turn p (decodeRo
 abbrev pub listed : List ℕ → ℕ → List ℕ
 listed bs p = go bs (length bs - p) p
 
+-- the whole listing of a refused image
 abbrev pub tooLongText : List ℕ
 tooLongText = spelled "REFUSED 7\n"
 

@@ -15,6 +15,7 @@ toList bs TooLong = tooLongText
 toList bs (From p) = listed bs p
 toList bs Nothing = []
 
+-- whether another page is to come
 abbrev pub isMore : Next → Bool
 isMore TooLong = true
 isMore (From p) = true

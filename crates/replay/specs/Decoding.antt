@@ -16,18 +16,18 @@ use Rattle.replay.specs.Verdict.{Judged}
 abbrev pub form : List ℕ
 form = spelled "# ################ # # ######### ######## #### #\n"
 
+-- the texts that are such a line: not more bytes are given than the eight there
 abbrev pub Whole : List ℕ → Type 0
 Whole s = Gives form (digitAt s 0) 8 s
 
-abbrev pub bytesIn : List ℕ → List ℕ
-bytesIn s = bytesAt 8 s 2
-
 -- what the rows of document 01 say of the bytes that a line gives
 abbrev pub answerTo : List ℕ → Answer
-answerTo s = decodeRows (take (digitAt s 0) (bytesIn s))
+answerTo s = decodeRows (take (digitAt s 0) (bytesAt 8 s 2))
 
+-- the numbers that the line says are those of the answer
 abbrev pub Right : List ℕ → Type 0
 Right s = numbersIn s ≡ numbersOf (answerTo s)
 
+-- what a verdict says of the line
 abbrev pub Says : Verdict → List ℕ → Type 0
 Says v s = Judged (Whole s) (Right s) v

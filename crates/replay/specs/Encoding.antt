@@ -14,22 +14,22 @@ use Rattle.replay.specs.Verdict.{Judged}
 abbrev pub form : List ℕ
 form = spelled "E########## ######## ######## # # ##############\n"
 
+-- the texts that are such a line
 abbrev pub Whole : List ℕ → Type 0
 Whole s = Has form s
 
--- in the order of the C library; taken, length and marked, which do not count, are 0
+-- twelve numbers in the order of the C library; taken, length and marked, which do not count, are 0
 abbrev pub recordIn : List ℕ → List ℕ
 recordIn s = 0 ∷ byteAt s 1 ∷ digitAt s 3 ∷ digitAt s 4 ∷ byteAt s 5 ∷ byteAt s 7 ∷ byteAt s 9 ∷ longAt s 12 ∷ wordAt s 21 ∷ wordAt s 25 ∷ 0 ∷ 0 ∷ []
 
-abbrev pub bytesIn : List ℕ → List ℕ
-bytesIn s = bytesAt 7 s 34
-
+-- refusal, bytes written, and the seven bytes as they are left
 abbrev pub outcomeIn : List ℕ → Left
-outcomeIn s = outcome (digitAt s 30) (digitAt s 32) (bytesIn s)
+outcomeIn s = outcome (digitAt s 30) (digitAt s 32) (bytesAt 7 s 34)
 
 -- the record, encoded from the first of seven zero bytes on, gives what the line says
 abbrev pub Right : List ℕ → Type 0
 Right s = EncodesNumbers (recordIn s) (replicate 7 0) 0 (outcomeIn s)
 
+-- what a verdict says of the line
 abbrev pub Says : Verdict → List ℕ → Type 0
 Says v s = Judged (Whole s) (Right s) v

@@ -8,7 +8,7 @@ use lib.ListN.{length, getD}
 use Rattle.tests.specs.Choice.{pick}
 use Rattle.replay.specs.Hex.{isDigit}
 
--- 35 is the #
+-- a character fits the one of the form in its place; 35 is the #
 abbrev pub fitsAt : ℕ → ℕ → Bool
 fitsAt f c = pick (eqb f 35) (isDigit c) (eqb c f)
 

@@ -17,15 +17,15 @@ use Rattle.replay.specs.Verdict.{Judged}
 abbrev pub form : List ℕ
 form = spelled "S################################## ## ## # ####\n"
 
+-- the texts that are such a line: not more bytes are given than the sixteen there
 abbrev pub Whole : List ℕ → Type 0
 Whole s = Gives form (byteAt s 1) 16 s
 
-abbrev pub bytesIn : List ℕ → List ℕ
-bytesIn s = bytesAt 16 s 3
-
+-- the bytes given
 abbrev pub imageIn : List ℕ → List ℕ
-imageIn s = take (byteAt s 1) (bytesIn s)
+imageIn s = take (byteAt s 1) (bytesAt 16 s 3)
 
+-- what the line says that the sweep returns
 abbrev pub sweptIn : List ℕ → Swept
 sweptIn s = record { refusal = digitAt s 42; count = byteAt s 36; place = byteAt s 39 }
 
@@ -45,5 +45,6 @@ pub record Right (s : List ℕ) : Type 0 where
   pub sweeps : Sweeps (imageIn s) (replicate 16 0) (sweptIn s) after
   pub starts : Begins (byteAt s 36) after (places 16 (wordAt s 44))
 
+-- what a verdict says of the line
 abbrev pub Says : Verdict → List ℕ → Type 0
 Says v s = Judged (Whole s) (Right s) v

@@ -1,4 +1,4 @@
--- What a verdict adds to the counts, which wrap at 2 ^ 64, and the lines of a text counted one after the other.
+-- What a verdict adds to the counts, and the lines of a text counted one after the other.
 use Prim.Native.Nat.{ℕ, _+_, _-_, _%_, _^_}
 use mathlib.Core.Path.{_≡_}
 use mathlib.Core.List.{List}
@@ -10,9 +10,11 @@ use Rattle.replay.specs.declared.verdict.Verdict.{Verdict}
 use Rattle.replay.specs.declared.verdict.Verdict.the-variants.{Agrees, Differs, Malformed}
 use Rattle.replay.specs.Line.{Says}
 
+-- answers, those that differ, malformed lines, and the number of the first malformed line
 abbrev pub tally : ℕ → ℕ → ℕ → ℕ → Tally
 tally a d m f = record { answers = a; differ = d; malformed = m; «first_malformed» = f }
 
+-- counts wrap at 2 ^ 64
 abbrev pub oneMore : ℕ → ℕ
 oneMore n = (n + 1) % 2 ^ 64
 
@@ -33,7 +35,7 @@ pub record Counted (s : List ℕ) (t r : Tally) : Type 0 where
 abbrev pub lineEnd : ℕ → ℕ → ℕ
 lineEnd at end = pick (ltb (end - at) 49) end (at + 49)
 
--- the lines before a place
+-- from the counts t to r: each line before a place was counted, in order
 pub data Tallied : List ℕ → ℕ → Tally → Tally → Type 0 where
   none : {text : List ℕ} {t : Tally} → Tallied text 0 t t
   more : {text : List ℕ} {at end : ℕ} {t m r : Tally} → Tallied text at t m → end ≡ lineEnd at (length text) → Counted (take (end - at) (drop at text)) m r → Tallied text end t r

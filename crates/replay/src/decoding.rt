@@ -1,8 +1,7 @@
 // A line with bytes, and what decoding them gives.
 ghost use mathlib.Core.Path.{_≡_};
-ghost use lib.ListN.{length};
 ghost use Rattle.replay.specs.Verdict.{Tells};
-ghost use Rattle.replay.specs.Decoding.{Whole, bytesIn, answerTo, Right, Says};
+ghost use Rattle.replay.specs.Decoding.{Whole, answerTo, Right, Says};
 use crate::form;
 use crate::hex;
 use crate::numbers;
@@ -20,29 +19,13 @@ fn is_whole(line: &[u8]) -> bool
     false
 }
 
-// The eight bytes of a line. Only as many as its first digit says were given; zeros fill up the rest.
-fn bytes_in(line: &[u8]) -> [u8; 8]
-    requires { ⌜ length (now line) ≡ 49 ⌝ }
-    ensures { λ r. ⌜ r ≡ bytesIn (now (line .entry)) ⌝ }
-{
-    [
-        hex::byte_at(line, 2),
-        hex::byte_at(line, 4),
-        hex::byte_at(line, 6),
-        hex::byte_at(line, 8),
-        hex::byte_at(line, 10),
-        hex::byte_at(line, 12),
-        hex::byte_at(line, 14),
-        hex::byte_at(line, 16),
-    ]
-}
-
-// What the decoder says of the bytes that a line gives.
+// What the decoder says of the bytes that a line gives: of its eight as many as its first digit says.
 fn answer_to(line: &[u8]) -> Answer
     requires { ⌜ Whole (now line) ⌝ }
     ensures { λ r. ⌜ r ≡ answerTo (now (line .entry)) ⌝ }
 {
-    let bytes = bytes_in(line);
+    let mut bytes = [0u8; 8];
+    hex::read_bytes(line, 2, &mut bytes);
     let count = hex::digit_at(line, 0) as usize;
     decode::decode(&bytes[..count], 0)
 }

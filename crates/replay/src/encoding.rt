@@ -2,7 +2,7 @@
 ghost use mathlib.Core.Path.{_≡_};
 ghost use lib.ListN.{length};
 ghost use Rattle.replay.specs.Verdict.{Tells};
-ghost use Rattle.replay.specs.Encoding.{Whole, recordIn, bytesIn, Right, Says};
+ghost use Rattle.replay.specs.Encoding.{Whole, recordIn, Right, Says};
 use crate::form;
 use crate::hex;
 use crate::verdict::Verdict;
@@ -36,22 +36,6 @@ fn record_in(line: &[u8]) -> [u32; 12]
     ]
 }
 
-// The seven bytes that a line gives, 0 where none is written.
-fn bytes_in(line: &[u8]) -> [u8; 7]
-    requires { ⌜ length (now line) ≡ 49 ⌝ }
-    ensures { λ r. ⌜ r ≡ bytesIn (now (line .entry)) ⌝ }
-{
-    [
-        hex::byte_at(line, 34),
-        hex::byte_at(line, 36),
-        hex::byte_at(line, 38),
-        hex::byte_at(line, 40),
-        hex::byte_at(line, 42),
-        hex::byte_at(line, 44),
-        hex::byte_at(line, 46),
-    ]
-}
-
 fn agrees(line: &[u8]) -> bool
     requires { ⌜ Whole (now line) ⌝ }
     ensures { λ r. ⌜ Tells r (Right (now (line .entry))) ⌝ }
@@ -66,7 +50,8 @@ fn agrees(line: &[u8]) -> bool
     if written != (hex::digit_at(line, 32) as usize) {
         return false;
     }
-    let bytes = bytes_in(line);
+    let mut bytes = [0u8; 7];
+    hex::read_bytes(line, 34, &mut bytes);
     check::same(&buf, &bytes)
 }
 

@@ -1,8 +1,8 @@
 // Upper-case hex digits, and the numbers that they spell in a text.
 ghost use mathlib.Core.Path.{_≡_};
-ghost use Prim.Native.Nat.{_+_, _≤_, _<_};
+ghost use Prim.Native.Nat.{_+_, _*_, _≤_, _<_};
 ghost use lib.ListN.{length};
-ghost use Rattle.replay.specs.Hex.{isDigit, digitOf, digitAt, byteAt, wordAt, longAt};
+ghost use Rattle.replay.specs.Hex.{isDigit, digitOf, digitAt, byteAt, wordAt, longAt, bytesAt};
 
 pub(crate) fn is_digit(c: u8) -> bool
     ensures { λ r. ⌜ r ≡ isDigit c ⌝ }
@@ -64,4 +64,16 @@ pub(crate) fn long_at(text: &[u8], at: usize) -> u32
     ensures { λ r. ⌜ r ≡ longAt (now (text .entry)) at ⌝ }
 {
     65536 * (word_at(text, at) as u32) + (word_at(text, at + 4) as u32)
+}
+
+// The bytes from a place on, as many as the buffer has.
+pub(crate) fn read_bytes(text: &[u8], at: usize, out: &mut [u8])
+    requires { ⌜ at + 2 * length (now out) ≤ length (now text) ⌝ }
+    ensures { λ _. ⌜ now (out .exit) ≡ bytesAt (length (now (out .entry))) (now (text .entry)) at ⌝ }
+{
+    let mut k: usize = 0;
+    while k < out.len() {
+        out[k] = byte_at(text, at + 2 * k);
+        k += 1;
+    }
 }

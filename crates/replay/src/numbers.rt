@@ -1,8 +1,8 @@
 // An answer in numbers: those that a line of the list holds, and those of what the decoder says.
 ghost use mathlib.Core.Path.{_≡_};
-ghost use mathlib.Core.Bool.{true};
 ghost use lib.ListN.{length};
 ghost use Rattle.replay.specs.Numbers.{numbersIn, numbersOf};
+ghost use Rattle.replay.specs.Verdict.{Tells};
 use crate::hex;
 use record::Answer;
 
@@ -61,7 +61,7 @@ pub(crate) fn numbers_of(a: Answer) -> Numbers
 }
 
 pub(crate) fn same(x: Numbers, y: Numbers) -> bool
-    ensures { λ r. ⌜ (r ≡ true → x ≡ y) × (x ≡ y → r ≡ true) ⌝ }
+    ensures { λ r. ⌜ Tells r (x ≡ y) ⌝ }
 {
     if x.refusal != y.refusal {
         return false;

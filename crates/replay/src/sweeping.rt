@@ -3,7 +3,7 @@ ghost use mathlib.Core.Path.{_≡_};
 ghost use lib.ListN.{length};
 ghost use Rattle.sweep.specs.Sweep.{Sweeps};
 ghost use Rattle.replay.specs.Verdict.{Tells};
-ghost use Rattle.replay.specs.Sweeping.{Whole, bytesIn, imageIn, sweptIn, places, Begins, Right, Says};
+ghost use Rattle.replay.specs.Sweeping.{Whole, imageIn, sweptIn, places, Begins, Right, Says};
 use crate::form;
 use crate::hex;
 use crate::verdict::Verdict;
@@ -18,30 +18,6 @@ fn is_whole(line: &[u8]) -> bool
         return hex::byte_at(line, 1) <= 16;
     }
     false
-}
-
-fn bytes_in(line: &[u8]) -> [u8; 16]
-    requires { ⌜ length (now line) ≡ 49 ⌝ }
-    ensures { λ r. ⌜ r ≡ bytesIn (now (line .entry)) ⌝ }
-{
-    [
-        hex::byte_at(line, 3),
-        hex::byte_at(line, 5),
-        hex::byte_at(line, 7),
-        hex::byte_at(line, 9),
-        hex::byte_at(line, 11),
-        hex::byte_at(line, 13),
-        hex::byte_at(line, 15),
-        hex::byte_at(line, 17),
-        hex::byte_at(line, 19),
-        hex::byte_at(line, 21),
-        hex::byte_at(line, 23),
-        hex::byte_at(line, 25),
-        hex::byte_at(line, 27),
-        hex::byte_at(line, 29),
-        hex::byte_at(line, 31),
-        hex::byte_at(line, 33),
-    ]
 }
 
 // Whether the first so many starts are the places of a word's bits, the first place's the highest.
@@ -75,7 +51,8 @@ fn swept(line: &[u8], starts: &mut [u16]) -> Swept
     requires { ⌜ Whole (now line) ⌝ }
     ensures { λ r. ⌜ Sweeps (imageIn (now (line .entry))) (now (starts .entry)) r (now (starts .exit)) ⌝ }
 {
-    let bytes = bytes_in(line);
+    let mut bytes = [0u8; 16];
+    hex::read_bytes(line, 3, &mut bytes);
     let given = hex::byte_at(line, 1) as usize;
     sweep::sweep(&bytes[..given], starts)
 }

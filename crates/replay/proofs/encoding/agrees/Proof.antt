@@ -3,6 +3,7 @@
 use Prim.Native.Nat.{ℕ}
 use mathlib.Core.Path.{_≡_, sym, ap, _∙_}
 use mathlib.Core.List.{List}
+use native.Mathlib.Omega.{arith}
 use borrow.Author.Needs.{needs}
 use Rattle.shortest.specs.Written.{outcome}
 use Rattle.replay.proofs.Answer.{refuted}
@@ -27,17 +28,20 @@ returns-2 c =
     let line = read .before .before .args .line .now in
     refuted (λ h. c .if2 .taken (ap (λ o. o .length) (said line (read .record-in .ensures) (done .m16c-encode .ensures) h) ∙ sym (c .before .digit-at2 .ensures .0)))
 
+read-bytes-requires : tie.Need-read-bytes-requires
+read-bytes-requires c κs = omega (arith, c .before .before .before .before .before .before .before .before .before .before .before .before .pre .long)
+
 returns-3 : tie.Need-returns-3
 returns-3 c =
-    let done = c .before .before .before .before .before .before .before .before .before in
+    let done = c .before .before .before .before .before .before .before .before .before .before .before in
     let read = done .before .before .before .before in
     let line = read .before .before .args .line .now in
-    let refusal = c .before .before .before .before .before .before .if1 .left ∙ c .before .before .before .before .before .before .before .digit-at .ensures .0 in
-    let written = c .before .before .before .before .if2 .left ∙ c .before .before .before .before .before .digit-at2 .ensures .0 in
-    let bytes = c .before .before .before .bytes-in .ensures in (
+    let refusal = c .before .before .before .before .before .before .before .before .if1 .left ∙ c .before .before .before .before .before .before .before .before .before .digit-at .ensures .0 in
+    let written = c .before .before .before .before .before .before .if2 .left ∙ c .before .before .before .before .before .before .before .digit-at2 .ensures .0 in
+    let bytes = c .before .before .before .before .read-bytes .ensures in (
       λ e. right line (read .record-in .ensures) (done .m16c-encode .ensures) (alike refusal written (c .same .ensures .0 e ∙ bytes)),
       λ h. c .same .ensures .1 (ap (λ o. o .buffer) (said line (read .record-in .ensures) (done .m16c-encode .ensures) h) ∙ sym bytes),
     )
 
 pub agrees-spec : {M : Type 1} → statement M
-agrees-spec = tie.close (tie.spec (λ c κs. search needs) (λ c. search needs) (λ c. search needs) (λ c κs. search needs) (λ c κs. search needs) (λ c. search needs) returns (λ c κs. search needs) (λ c. search needs) returns-2 (λ c κs. search needs) (λ c. search needs) (λ c. search needs) (λ c κs. search needs) returns-3)
+agrees-spec = tie.close (tie.spec (λ c κs. search needs) (λ c. search needs) (λ c. search needs) (λ c κs. search needs) (λ c κs. search needs) (λ c. search needs) returns (λ c κs. search needs) (λ c. search needs) returns-2 (λ c. search needs) read-bytes-requires (λ c. search needs) (λ c. search needs) (λ c κs. search needs) returns-3)

@@ -22,6 +22,9 @@ abbrev μ-loop : tie.MeasureT-loop
 returns : tie.Need-returns Inv-loop μ-loop
 returns c = refuted (λ h. c .if1 .taken (h .long))
 
+loop-holds : tie.Need-loop-holds Inv-loop μ-loop
+loop-holds c = (search needs, below-none _)
+
 returns-2 : tie.Need-returns-2 Inv-loop μ-loop
 returns-2 c = refuted (λ h. let f = h .fitting (c .before .before .before .before .before .loop .k) (search needs) in not-both (cc) (not-true (c .before .fits2 .result) (c .if2 .taken)))
 
@@ -32,4 +35,4 @@ returns-3 : tie.Need-returns-3 Inv-loop μ-loop
 returns-3 c = (λ e. record { long = c .before .before .if1 .left; fitting = λ j h. c .before .loop .inv .1 j (omega arith) }, λ h. refl)
 
 pub has-spec : {M : Type 1} → statement M
-has-spec = tie.close (tie.spec Inv-loop μ-loop returns (λ c. (search needs, below-none _)) (λ c. search needs) (λ c. search needs) (λ c κs. search needs) returns-2 (λ c. search needs) (λ c. search needs) loop-again returns-3)
+has-spec = tie.close (tie.spec Inv-loop μ-loop returns loop-holds (λ c. search needs) (λ c. search needs) (λ c κs. search needs) returns-2 (λ c. search needs) (λ c. search needs) loop-again returns-3)
