@@ -50,7 +50,7 @@ fn replay_line(line: &[u8], t: Tally) -> Tally
     match judge(line) {
         Verdict::Agrees => t.agreed(),
         Verdict::Differs => {
-            if t.differ == 0 {
+            if t.none_differs() {
                 io::write_all(STDOUT_FILENO, b"first: ");
                 io::write_all(STDOUT_FILENO, line);
             }
@@ -109,7 +109,7 @@ fn replay() -> Tally {
 }
 
 fn report(t: Tally) {
-    if t.malformed > 0 {
+    if t.any_malformed() {
         io::write_all(STDOUT_FILENO, b"first malformed line: ");
         io::print_decimal(STDOUT_FILENO, t.first_malformed);
         io::write_all(STDOUT_FILENO, b"\n");
@@ -118,7 +118,7 @@ fn report(t: Tally) {
     io::write_all(STDOUT_FILENO, b" answers, ");
     io::print_decimal(STDOUT_FILENO, t.differ);
     io::write_all(STDOUT_FILENO, b" differ");
-    if t.malformed > 0 {
+    if t.any_malformed() {
         io::write_all(STDOUT_FILENO, b", ");
         io::print_decimal(STDOUT_FILENO, t.malformed);
         io::write_all(STDOUT_FILENO, b" malformed");

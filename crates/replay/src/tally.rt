@@ -1,5 +1,6 @@
 // How many lines of each verdict were met. No run reads 2 ^ 64 lines, so no count wraps.
 ghost use mathlib.Core.Path.{_≡_};
+ghost use lib.Dec.{eqb, ltb};
 ghost use Rattle.replay.specs.Tally.{tally, counted};
 use crate::verdict::Verdict;
 use std::num::wrapping_add_u64;
@@ -47,5 +48,17 @@ impl Tally {
             self.first_malformed = wrapping_add_u64(self.answers, 1);
         }
         self
+    }
+
+    pub fn none_differs(self) -> bool
+        ensures { λ r. ⌜ r ≡ eqb (self .differ) 0 ⌝ }
+    {
+        self.differ == 0
+    }
+
+    pub fn any_malformed(self) -> bool
+        ensures { λ r. ⌜ r ≡ ltb 0 (self .malformed) ⌝ }
+    {
+        0 < self.malformed
     }
 }
