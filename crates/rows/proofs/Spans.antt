@@ -27,7 +27,7 @@ module _ (bs : List ℕ) (number : ℕ) (o : Opcode) where
     early : s .first ≡ numberIn bs (z .early)
     opcode : namedIn bs o (z .naming) ≡ named (f .opcode)
 
-  -- what is to be shown of a row's reads: its refusals were not met
+  -- of a list of reads: where it accepts, the record was made at its spans, and none of its own refusals was met
   abbrev Goes : List Read → Type 0
   Goes rs = (f : Face) (s : Seen) (z : Spans) → SoFar z f s → run rs bs f s .refusal ≡ 0 → Made bs number o f (follow rs z) (run rs bs f s .inst) × (fate rs ≡ 0)
 
