@@ -32,12 +32,12 @@ find_kit() {
 }
 
 # The crates of the port's functions for C. Each makes an archive of its own: docs/DECISIONS.md says why.
-c_crates="m16c m16c_encode m16c_sweep m16c_line"
+c_crates="m16c_decode m16c_encode m16c_sweep m16c_line"
 
 # Sets `library`, which has each function for C.
 build_library() {
     find_or_make_library
-    for function in m16c_decode m16c_encode m16c_sweep m16c_line; do
+    for function in $c_crates; do
         grep -q "$function" "$library" || fail "the library has no function $function: $library"
     done
 }

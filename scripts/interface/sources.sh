@@ -20,7 +20,7 @@ LIST
 }
 
 # The same of lengths that callers make room by. Each stands in a definition or is proved: `whole` (sweep/specs/Sweep), `two-to-seven`
-# (rows/proofs/Length), `line-short` (text/proofs/Lined).
+# (rows/proofs/Length), `line-short` (line/proofs/Lined).
 numbered_lengths() {
     cat <<'LIST'
 4096 longest_image the longest image that is swept, in bytes
@@ -35,7 +35,7 @@ numbered_fields() {
         gsub(/[^0-9]/, "", $1)
         sub(/^.*[.(]/, "", $3); sub(/[);].*$/, "", $3)
         print $1, $3
-    }' "$repo/crates/m16c/src/lib.rt"
+    }' "$repo/crates/m16c_decode/src/lib.rt"
 }
 
 # The opcodes that carry a size in the Rust. The oracle's driver lists them, and compiles only if the given Rust agrees.

@@ -2,11 +2,11 @@
 
 use m16c::{decode, sweep, Instruction, Refused, LONGEST_IMAGE};
 
-const IMAGE: &[u8] = include_bytes!("../../../crates/listing/stdin");
-const LISTING: &str = include_str!("../../../crates/listing/stdout");
+const IMAGE: &[u8] = include_bytes!("../../../crates/list_image/stdin");
+const LISTING: &str = include_str!("../../../crates/list_image/stdout");
 // Images, each behind two bytes that say how long it is, the higher first; and their listings one behind the other.
-const IMAGES: &[u8] = include_bytes!("../../../crates/listings/stdin");
-const LISTINGS: &str = include_str!("../../../crates/listings/stdout");
+const IMAGES: &[u8] = include_bytes!("../../../crates/list_images/stdin");
+const LISTINGS: &str = include_str!("../../../crates/list_images/stdout");
 
 fn images() -> Vec<&'static [u8]> {
     let (mut rest, mut images) = (IMAGES, Vec::new());

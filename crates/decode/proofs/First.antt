@@ -7,14 +7,14 @@ use mathlib.Core.List.{List}
 use native.Mathlib.Omega.{arith}
 use lib.Dec.{eqb}
 use borrow.Author.Tests.{lt-ltb, le-ltb, lt-leb, ne-eqb}
-use Rattle.tests.specs.Choice.{pick}
-use Rattle.tests.proofs.Range.{each-from}
+use Rattle.laws.specs.Choice.{pick}
+use Rattle.laws.proofs.Range.{each-from}
 use Rattle.record.specs.declared.Answer.{Answer}
 use Rattle.record.specs.declared.Width.{Width}
 use Rattle.rows.specs.Row.{Row}
 use Rattle.rows.specs.Rows.{known, rowsOf, document01, row74, row76, row78}
 use Rattle.rows.specs.Run.{refusal, runRow}
-use Rattle.readers.specs.Width.{widthOf}
+use Rattle.readers.specs.steps.Width.{widthOf}
 
 -- what the rows say of a code, for a first byte inside or outside
 abbrev pub Says : ℕ → ℕ → List ℕ → Answer

@@ -1,17 +1,17 @@
 ghost use mathlib.Core.Path.{_≡_};
 ghost use lib.ListN.{drop};
-ghost use Rattle.tests.specs.Choice.{pick};
+ghost use Rattle.laws.specs.Choice.{pick};
 ghost use Rattle.rows.specs.Rows.{known, document01};
 ghost use Rattle.rows.specs.Run.{decodeRows, refusal, runRow};
-use groups_7c::op7C;
-use groups_7c::op7D;
-use groups_7c::opEB;
-use groups_74::op7A;
-use groups_74::op7B;
-use groups_74::op7E;
-use groups_74::op74;
-use groups_74::op76;
-use groups_74::op78;
+use decode_7c::op7C;
+use decode_7c::op7D;
+use decode_7c::opEB;
+use decode_74::op7A;
+use decode_74::op7B;
+use decode_74::op7E;
+use decode_74::op74;
+use decode_74::op76;
+use decode_74::op78;
 use readers::answer;
 use record::Answer;
 

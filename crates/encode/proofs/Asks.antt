@@ -10,20 +10,20 @@ use mathlib.Core.List.{List, _++_, append-nil, [], _∷_}
 use lib.Dec.{T, leb, ltb}
 use native.Mathlib.Omega.{arith}
 use borrow.Author.Tests.{leb-true}
-use Rattle.tests.specs.Choice.{pick, both}
+use Rattle.laws.specs.Choice.{pick, both}
 use Rattle.record.specs.declared.Record.{Record}
 use Rattle.record.specs.Same.{sameName, among, fieldOf, baseOf}
 use Rattle.rows.specs.All.{everyCode}
 use Rattle.rows.specs.Row.{Read, Face, Row, disp, imm, imm20, num, cond}
 use Rattle.rows.specs.Rows.{known, rowsOf, document01}
 use Rattle.rows.proofs.All.{every-code}
-use Rattle.shortest.specs.Digits.{digits}
-use Rattle.shortest.specs.Can.{fits}
-use Rattle.shortest.specs.Search.{condByte, disps, conds, nth, spell, live}
-use Rattle.shortest.specs.Coarse.{whole, wholeRow}
-use Rattle.shortest.proofs.Formed.{meant}
-use Rattle.shortest.proofs.Bools.{so, both-true, both-last, picked}
-use Rattle.encode.specs.Slots.{near, far}
+use Rattle.encode_rules.specs.steps.Digits.{digits}
+use Rattle.encode_rules.specs.steps.Can.{fits}
+use Rattle.encode_rules.specs.steps.Search.{condByte, disps, conds, nth, spell, live}
+use Rattle.encode_choice.specs.steps.Coarse.{whole, wholeRow}
+use Rattle.encode_choice.proofs.Formed.{meant}
+use Rattle.encode_rules.proofs.Bools.{so, both-true, both-last, picked}
+use Rattle.encode.specs.steps.Slots.{near, far}
 use Rattle.encode.proofs.Slim.{slim, oneNum, oneRead, oneList, one-list, slim-spell, slim-fits}
 
 abbrev pub displacement : ℕ → List Read

@@ -11,9 +11,9 @@ use Rattle.record.specs.declared.Operand.the-variants.{«Disp8_SP»}
 use Rattle.record.specs.Same.{sameName, among, Field, nowhere, wide, short, early, fieldOf}
 use Rattle.record.proofs.Apart.{operands-apart}
 use Rattle.record.proofs.Arms.{every-operand, bit, bits-apart}
-use Rattle.shortest.proofs.Bools.{so}
-use Rattle.encode.specs.Slots.{near}
-use Rattle.encode.specs.Value.{isShort}
+use Rattle.encode_rules.proofs.Bools.{so}
+use Rattle.encode.specs.steps.Slots.{near}
+use Rattle.encode.specs.steps.Value.{isShort}
 
 -- no test is both
 pub no : {A : Type 0} → true ≡ false → A

@@ -7,7 +7,7 @@ use mathlib.Core.List.{_∷_}
 use lib.Dec.{T, eqb, ltb}
 use lib.ListN.{getD}
 use borrow.Author.Tests.{eqb-true, eq-eqb, ltb-true}
-use Rattle.tests.specs.Choice.{pick, both}
+use Rattle.laws.specs.Choice.{pick, both}
 use Rattle.record.specs.declared.Record.{Record}
 use Rattle.record.specs.declared.Key.{Key}
 use Rattle.record.specs.declared.Operand.the-variants.{Nothing}
@@ -17,21 +17,21 @@ use Rattle.record.proofs.Apart.{operands-apart}
 use Rattle.rows.specs.All.{everyCode}
 use Rattle.rows.specs.Rows.{known, rowsOf, document01}
 use Rattle.rows.proofs.All.{every-code}
-use Rattle.shortest.specs.declared.Asked.{Asked}
-use Rattle.shortest.specs.Says.{bytes, none}
-use Rattle.shortest.specs.Search.{conds, live, aim, bytesBy}
-use Rattle.shortest.specs.Coarse.{whole, wholeRow}
-use Rattle.shortest.specs.Can.{can}
-use Rattle.shortest.specs.Direct.{Choice, code, nothing, able, taken}
-use Rattle.shortest.specs.Forms.{formOf, numberLimit, goesWith}
-use Rattle.shortest.specs.Choose.{asked, dropsZero, chooseBy, chooseNamed, encoded}
-use Rattle.shortest.proofs.Bools.{so, both-true, picked}
-use Rattle.shortest.proofs.Formed.{Formed, formed}
+use Rattle.encode_choice.specs.declared.Asked.{Asked}
+use Rattle.encode_rules.specs.Says.{bytes, none}
+use Rattle.encode_rules.specs.steps.Search.{conds, live, aim, bytesBy}
+use Rattle.encode_choice.specs.steps.Coarse.{whole, wholeRow}
+use Rattle.encode_rules.specs.steps.Can.{can}
+use Rattle.encode_rules.specs.steps.Direct.{Choice, code, nothing, able, taken}
+use Rattle.encode_choice.specs.steps.Forms.{formOf, numberLimit, goesWith}
+use Rattle.encode_choice.specs.steps.Choose.{asked, dropsZero, chooseBy, chooseNamed, encoded}
+use Rattle.encode_rules.proofs.Bools.{so, both-true, picked}
+use Rattle.encode_choice.proofs.Formed.{Formed, formed}
 use Rattle.encode.specs.declared.Plan.{Plan}
-use Rattle.encode.specs.Faced.{faceBy, conditions}
-use Rattle.encode.specs.Plan.{planned, foundBy}
-use Rattle.encode.specs.Slots as slots
-use Rattle.encode.specs.Slots.{limitOf}
+use Rattle.encode.specs.steps.Faced.{faceBy, conditions}
+use Rattle.encode.specs.steps.Plan.{planned, foundBy}
+use Rattle.encode.specs.steps.Slots as slots
+use Rattle.encode.specs.steps.Slots.{limitOf}
 use Rattle.encode.proofs.Asks.{spelled}
 use Rattle.encode.proofs.Sayable.{agreeing, said}
 use Rattle.encode.proofs.Narrowed.{base-kept, whole-kept, whole-base}

@@ -6,17 +6,17 @@ use mathlib.Core.Path.{_≡_, refl, sym, ap, ap₂, subst}
 use mathlib.Core.Bool.{Bool, true, false, false≢true}
 use mathlib.Core.List.{_++_, List}
 use mathlib.Core.Logic.{_⊎_, inl, inr}
-use Rattle.tests.specs.Choice.{pick, both}
+use Rattle.laws.specs.Choice.{pick, both}
 use Rattle.record.specs.declared.Key.{Key}
 use Rattle.record.specs.declared.Operand.the-variants.{«Disp8_SP»}
 use Rattle.record.specs.Same.{sameName, Field, nowhere, wide, short, early, fieldOf}
 use Rattle.rows.specs.Row.{Face}
-use Rattle.shortest.specs.Digits.{digits}
-use Rattle.shortest.specs.Search.{dispFor, firstFor, aim, condByte, wideFor}
-use Rattle.shortest.proofs.Formed.{meant}
-use Rattle.encode.specs.Slots.{near}
+use Rattle.encode_rules.specs.steps.Digits.{digits}
+use Rattle.encode_rules.specs.steps.Search.{dispFor, firstFor, aim, condByte, wideFor}
+use Rattle.encode_choice.proofs.Formed.{meant}
+use Rattle.encode.specs.steps.Slots.{near}
 use Rattle.encode.proofs.Asks.{before, behind, further, front, numbers, fitting, fittingNumber, allFitting}
-use Rattle.encode.specs.Value.{isShort}
+use Rattle.encode.specs.steps.Value.{isShort}
 use Rattle.encode.proofs.Fields.{no, some, near-some, sp-short}
 
 -- each has so many bytes

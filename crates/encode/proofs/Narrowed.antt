@@ -4,8 +4,8 @@ use mathlib.Core.Path.{_≡_, sym, ap}
 use mathlib.Core.Bool.{Bool, true, false}
 use lib.Dec.{T, eqb}
 use borrow.Author.Tests.{eqb-true}
-use Rattle.tests.specs.Choice.{both, either}
-use Rattle.tests.specs.Table.{every}
+use Rattle.laws.specs.Choice.{both, either}
+use Rattle.laws.specs.Table.{every}
 use Rattle.record.specs.declared.Operand.{Operand}
 use Rattle.record.specs.declared.Operand.the-variants.{Imm4, Imm8}
 use Rattle.record.specs.declared.Width.{Width}
@@ -13,9 +13,9 @@ use Rattle.record.specs.Numbers.{widthNo, operandNo}
 use Rattle.record.specs.Same.{sameName, among, baseOf}
 use Rattle.record.proofs.Apart.{operands, operands-apart}
 use Rattle.record.proofs.Arms.{every-operand, bit, bits-apart}
-use Rattle.shortest.specs.Choose.{narrow}
-use Rattle.shortest.specs.Coarse.{whole}
-use Rattle.shortest.proofs.Bools.{so}
+use Rattle.encode_choice.specs.steps.Choose.{narrow}
+use Rattle.encode_choice.specs.steps.Coarse.{whole}
+use Rattle.encode_rules.proofs.Bools.{so}
 
 -- a test at every name, however its number is
 abbrev Always : (Bool → Bool → Operand → Bool) → Type 0

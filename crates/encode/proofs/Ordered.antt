@@ -9,8 +9,8 @@ use native.Mathlib.Omega.{arith}
 use native.Mathlib.Nat.{lt-of-lt-of-le}
 use lib.Dec.{T, eqb, ltb, leb}
 use borrow.Author.Tests.{eqb-true, eq-eqb, lt-ltb, ltb-true, leb-true}
-use Rattle.tests.specs.Choice.{pick, both, either}
-use Rattle.tests.proofs.Choice.{both-left, both-right}
+use Rattle.laws.specs.Choice.{pick, both, either}
+use Rattle.laws.proofs.Choice.{both-left, both-right}
 use Rattle.record.specs.declared.Key.{Key}
 use Rattle.record.specs.declared.Operand.{Operand}
 use Rattle.record.specs.declared.Operand.the-variants.{Imm4, Imm8, «Disp8_SP»}
@@ -21,20 +21,20 @@ use Rattle.rows.specs.Row.{Face}
 use Rattle.rows.specs.Rows.{known, rowsOf, document01}
 use Rattle.rows.specs.Run.{twentyBits}
 use Rattle.rows.proofs.All.{every-code}
-use Rattle.shortest.specs.Digits.{digits}
-use Rattle.shortest.specs.Search.{conds, live, wideFor, condByte}
-use Rattle.shortest.specs.Can.{exact}
-use Rattle.shortest.specs.Coarse.{whole, wholeRow}
-use Rattle.shortest.specs.Forms.{numberLimit}
-use Rattle.shortest.proofs.Bools.{so, both-last, picked, level}
-use Rattle.choose.specs.Coded.{isWide}
-use Rattle.shortest.proofs.Formed.{meant}
-use Rattle.encode.specs.Slots.{near, far}
+use Rattle.encode_rules.specs.steps.Digits.{digits}
+use Rattle.encode_rules.specs.steps.Search.{conds, live, wideFor, condByte}
+use Rattle.encode_rules.specs.steps.Can.{exact}
+use Rattle.encode_choice.specs.steps.Coarse.{whole, wholeRow}
+use Rattle.encode_choice.specs.steps.Forms.{numberLimit}
+use Rattle.encode_rules.proofs.Bools.{so, both-last, picked, level}
+use Rattle.encode_choice.specs.steps.Coded.{isWide}
+use Rattle.encode_choice.proofs.Formed.{meant}
+use Rattle.encode.specs.steps.Slots.{near, far}
 use Rattle.encode.proofs.Asks.{before, behind, further, fitting, fittingNumber}
 use Rattle.encode.proofs.Laid.{parts, laid}
 use Rattle.encode.proofs.Sayable.{sayable}
-use Rattle.encode.specs.Slots as slots
-use Rattle.encode.specs.Slots.{countOf, limitOf, turns, count0}
+use Rattle.encode.specs.steps.Slots as slots
+use Rattle.encode.specs.steps.Slots.{countOf, limitOf, turns, count0}
 use Rattle.encode.proofs.Laid.{fit-as}
 use Rattle.encode.proofs.Value.{exact-own, exact-read}
 use Rattle.encode.proofs.Tagged.{Source, zeroth, oneth, condition, value, Tag, tag, spellOut, hold, some, same, one-list, spell-alike, hold-append}

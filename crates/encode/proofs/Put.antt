@@ -7,10 +7,10 @@ use native.Mathlib.Omega.{arith}
 use native.Mathlib.Numerals.{add-one}
 use lib.ListN.{length, take, drop, set, length-append, length-drop, take-append-drop}
 use lib.Seq.{sets-eq, take-at, drop-at, drop-drop, length-take-le}
-use Rattle.shortest.specs.Digits.{digits}
-use Rattle.shortest.proofs.Runs.{digits-length}
+use Rattle.encode_rules.specs.steps.Digits.{digits}
+use Rattle.encode_rules.proofs.Runs.{digits-length}
 use Rattle.encode.specs.declared.Plan.{Plan}
-use Rattle.encode.specs.Plan.{planned, put}
+use Rattle.encode.specs.steps.Plan.{planned, put}
 
 module _ (l : List ℕ) (at : ℕ) where
   pub put-none : l ≡ put at [] l

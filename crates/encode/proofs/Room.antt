@@ -8,13 +8,13 @@ use lib.ListN.{length, take, drop, length-append}
 use lib.Seq.{drop-drop}
 use borrow.Rule.Slice.PartMut.{putMid}
 use borrow.Author.Tests.{le-leb, lt-leb}
-use Rattle.lent.proofs.Rest.{rest, given-back}
-use Rattle.shortest.specs.Digits.{digits}
-use Rattle.shortest.proofs.Runs.{digits-length}
-use Rattle.shortest.specs.Says.{bytes}
-use Rattle.shortest.specs.Written.{outcome, written}
+use Rattle.laws.proofs.Rest.{rest, given-back}
+use Rattle.encode_rules.specs.steps.Digits.{digits}
+use Rattle.encode_rules.proofs.Runs.{digits-length}
+use Rattle.encode_rules.specs.Says.{bytes}
+use Rattle.encode_rules.specs.Written.{outcome, written}
 use Rattle.encode.specs.declared.Plan.{Plan}
-use Rattle.encode.specs.Plan.{planned, put}
+use Rattle.encode.specs.steps.Plan.{planned, put}
 
 pub planned-length : (p : Plan) → length (planned p) ≡ 2 + p .count + p .«rest_count»
 planned-length p =

@@ -5,15 +5,15 @@ use mathlib.Core.Path.{_≡_, refl, ap, _∙_}
 use mathlib.Core.Bool.{Bool, true}
 use mathlib.Core.List.{List, _++_}
 use lib.Dec.{eqb}
-use Rattle.tests.specs.Choice.{both}
+use Rattle.laws.specs.Choice.{both}
 use Rattle.record.specs.declared.Operand.the-variants.{Nothing}
 use Rattle.record.specs.Numbers.{sizeNo, widthNo, operandNo}
 use Rattle.record.specs.declared.Key.{Key}
 use Rattle.record.specs.Same.{Field, nowhere, wide, short, early, fieldOf, baseOf}
 use Rattle.rows.specs.Row.{Read, Face}
 use Rattle.rows.specs.Rows.{known, document01}
-use Rattle.shortest.specs.Search.{imms, conds, live, aim}
-use Rattle.shortest.specs.Can.{exact, named, can}
+use Rattle.encode_rules.specs.steps.Search.{imms, conds, live, aim}
+use Rattle.encode_rules.specs.steps.Can.{exact, named, can}
 use Rattle.encode.proofs.Asks.{displacement, number, condition, before, behind, further, readsOf, as-named, fitted, allFitting}
 use Rattle.encode.proofs.Slim.{slim-imms}
 

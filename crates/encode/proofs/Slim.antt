@@ -6,16 +6,16 @@ use mathlib.Core.Bool.{Bool, true, false}
 use mathlib.Core.List.{List, [], _∷_, _++_}
 use lib.Dec.{T, eqb, ltb}
 use borrow.Author.Tests.{eqb-true}
-use Rattle.tests.specs.Choice.{both}
-use Rattle.tests.proofs.Choice.{both-left, both-right}
+use Rattle.laws.specs.Choice.{both}
+use Rattle.laws.proofs.Choice.{both-left, both-right}
 use Rattle.record.specs.declared.Record.{Record}
 use Rattle.rows.specs.Row.{Num, disp, imm, imm20, Read, num, cond, stop}
 use Rattle.rows.specs.Codes.{condOf}
 use Rattle.rows.specs.Run.{twentyBits}
-use Rattle.shortest.specs.Digits.{digits}
-use Rattle.shortest.specs.Can.{fits}
-use Rattle.shortest.specs.Search.{means, condByte, disps, imms, nth, spell}
-use Rattle.shortest.proofs.Bools.{so}
+use Rattle.encode_rules.specs.steps.Digits.{digits}
+use Rattle.encode_rules.specs.steps.Can.{fits}
+use Rattle.encode_rules.specs.steps.Search.{means, condByte, disps, imms, nth, spell}
+use Rattle.encode_rules.proofs.Bools.{so}
 
 -- reads without those of no byte
 unfoldable pub slim : List Read → List Read

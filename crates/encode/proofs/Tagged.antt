@@ -7,12 +7,12 @@ use mathlib.Core.List.{List, [], _∷_, _++_}
 use native.Mathlib.Omega.{arith}
 use lib.Dec.{T, eqb, ltb}
 use borrow.Author.Tests.{eqb-true}
-use Rattle.tests.specs.Choice.{both}
-use Rattle.tests.proofs.Choice.{both-left, both-right}
+use Rattle.laws.specs.Choice.{both}
+use Rattle.laws.proofs.Choice.{both-left, both-right}
 use Rattle.record.specs.declared.Key.{Key}
-use Rattle.shortest.specs.Digits.{digits}
-use Rattle.shortest.specs.Search.{condByte}
-use Rattle.shortest.proofs.Bools.{so}
+use Rattle.encode_rules.specs.steps.Digits.{digits}
+use Rattle.encode_rules.specs.steps.Search.{condByte}
+use Rattle.encode_rules.proofs.Bools.{so}
 
 pub data Source : Type 0 where
   zeroth oneth condition : Source

@@ -5,7 +5,7 @@ use mathlib.Core.Logic.{_≢_}
 use mathlib.Core.Bool.{Bool, true, false, false≢true}
 use lib.Dec.{ltb, eqb}
 use borrow.Author.Tests.{eq-eqb}
-use Rattle.tests.specs.Choice.{pick, both}
+use Rattle.laws.specs.Choice.{pick, both}
 use Rattle.record.specs.declared.Key.{Key}
 use Rattle.record.specs.declared.Record.{Record}
 use Rattle.record.specs.declared.Operand.{Operand}
@@ -14,14 +14,14 @@ use Rattle.record.specs.Numbers.{operandNo}
 use Rattle.record.specs.Same.{sameName, among, baseOf, key}
 use Rattle.record.proofs.Arms.{every-operand}
 use Rattle.rows.specs.Rows.{known, document01}
-use Rattle.shortest.specs.Says.{bytes, none}
-use Rattle.shortest.specs.Search.{bytesBy}
-use Rattle.shortest.specs.Can.{can}
-use Rattle.shortest.specs.Choose.{choose, encoded}
-use Rattle.shortest.specs.Direct.{Choice, code, nothing, there, able, taken}
-use Rattle.shortest.proofs.Bools.{so, both-true, picked}
-use Rattle.shortest.proofs.Can.{parts}
-use Rattle.choose.specs.Coded.{coded}
+use Rattle.encode_rules.specs.Says.{bytes, none}
+use Rattle.encode_rules.specs.steps.Search.{bytesBy}
+use Rattle.encode_rules.specs.steps.Can.{can}
+use Rattle.encode_choice.specs.steps.Choose.{choose, encoded}
+use Rattle.encode_rules.specs.steps.Direct.{Choice, code, nothing, there, able, taken}
+use Rattle.encode_rules.proofs.Bools.{so, both-true, picked}
+use Rattle.encode_rules.proofs.Can.{parts}
+use Rattle.encode_choice.specs.steps.Coded.{coded}
 
 pub uncoded : (x : Choice) → coded x .first ≢ 0 → x ≡ code (coded x .first) (coded x .second)
 uncoded (code a b) h = refl

@@ -5,13 +5,13 @@ use mathlib.Core.Path.{_≡_, refl}
 use mathlib.Core.Logic.{_≢_}
 use mathlib.Core.Bool.{Bool, true, false, false≢true}
 use lib.Dec.{eqb}
-use Rattle.tests.specs.Choice.{pick}
+use Rattle.laws.specs.Choice.{pick}
 use Rattle.record.specs.declared.Record.{Record}
 use Rattle.record.specs.declared.Operand.the-variants.{«Disp8_SP»}
 use Rattle.record.specs.Same.{sameName, Field, nowhere, wide, short, early, fieldOf, shared, field0, field1, valueOf}
-use Rattle.shortest.specs.Can.{exact}
-use Rattle.choose.specs.Coded.{isWide}
-use Rattle.encode.specs.Value.{valued, isShort}
+use Rattle.encode_rules.specs.steps.Can.{exact}
+use Rattle.encode_choice.specs.steps.Coded.{isWide}
+use Rattle.encode.specs.steps.Value.{valued, isShort}
 use Rattle.encode.proofs.Fields.{no, isEarly, never-early, sp-short}
 
 module _ (r : Record) where

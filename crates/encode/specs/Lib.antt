@@ -1,4 +1,1 @@
-pub mod Plan
-pub mod Faced
-pub mod Value
-pub mod Slots
+pub mod steps

@@ -1,6 +1,6 @@
 // The condition that an opcode is, as 7E 2n reads it.
 ghost use mathlib.Core.Path.{_≡_};
-ghost use Rattle.shortest.specs.Search.{condByte};
+ghost use Rattle.encode_rules.specs.steps.Search.{condByte};
 use record::Opcode;
 
 pub(crate) fn byte_of(o: Opcode) -> u8

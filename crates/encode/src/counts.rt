@@ -2,8 +2,8 @@
 ghost use mathlib.Core.Path.{_≡_};
 ghost use Prim.Native.Nat.{_≤_};
 ghost use Rattle.record.specs.Same.{fieldOf};
-ghost use Rattle.encode.specs.Value.{isShort};
-ghost use Rattle.encode.specs.Slots.{countOf, limitOf};
+ghost use Rattle.encode.specs.steps.Value.{isShort};
+ghost use Rattle.encode.specs.steps.Slots.{countOf, limitOf};
 use record::Operand;
 
 pub(crate) fn count(o: Operand) -> u8

@@ -1,5 +1,5 @@
 ghost use mathlib.Core.Path.{_≡_};
-ghost use Rattle.tests.specs.Choice as choice;
+ghost use Rattle.laws.specs.Choice as choice;
 
 // Two tests at once: both are made, which takes no branch.
 pub(crate) fn both(a: bool, b: bool) -> bool

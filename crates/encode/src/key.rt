@@ -1,11 +1,11 @@
 // What counts of a record.
 ghost use mathlib.Core.Path.{_≡_};
-ghost use Rattle.tests.specs.Choice.{pick};
+ghost use Rattle.laws.specs.Choice.{pick};
 ghost use Rattle.record.specs.declared.Operand.the-variants.{«Disp8_SP»};
 ghost use Rattle.record.specs.Same.{sameName, fieldOf, baseOf, key};
-ghost use Rattle.encode.specs.Value.{valued, isShort};
+ghost use Rattle.encode.specs.steps.Value.{valued, isShort};
 use crate::counts;
-use choose::names;
+use encode_choice::names;
 use record::Key;
 use record::Operand;
 use record::Record;

@@ -2,19 +2,19 @@
 ghost use mathlib.Core.Path.{_≡_};
 ghost use mathlib.Core.List.{_∷_, _++_};
 ghost use Prim.Native.Nat.{_≤_};
-ghost use Rattle.tests.specs.Choice.{pick};
-ghost use Rattle.shortest.specs.Digits.{digits};
-ghost use Rattle.encode.specs.Faced.{faceBy};
-ghost use Rattle.encode.specs.Plan.{planned};
-ghost use Rattle.encode.specs.Slots as slots;
+ghost use Rattle.laws.specs.Choice.{pick};
+ghost use Rattle.encode_rules.specs.steps.Digits.{digits};
+ghost use Rattle.encode.specs.steps.Faced.{faceBy};
+ghost use Rattle.encode.specs.steps.Plan.{planned};
+ghost use Rattle.encode.specs.steps.Slots as slots;
 use crate::Plan;
 use crate::condition;
 use crate::counts;
 use crate::joined;
-use choose::names;
+use encode_choice::Asked;
+use encode_choice::names;
 use record::Key;
 use record::Operand;
-use shortest::Asked;
 
 // Each number is small enough for its bytes.
 pub(crate) fn fits(q: Asked, k: Key) -> bool

@@ -11,13 +11,13 @@ ghost use mathlib.Core.Bool.{true};
 ghost use Prim.Native.Nat.{_≤_};
 ghost use Rattle.record.specs.declared.Operand.the-variants.{Nothing};
 ghost use Rattle.record.specs.Same.{sameName};
-ghost use Rattle.shortest.specs.Choose.{encoded};
-ghost use Rattle.shortest.specs.Says.{none};
-ghost use Rattle.shortest.specs.Written.{outcome, Encodes};
-ghost use Rattle.encode.specs.Faced as faced;
-ghost use Rattle.encode.specs.Plan.{foundBy};
-use choose::asks;
-use choose::names;
+ghost use Rattle.encode_choice.specs.steps.Choose.{encoded};
+ghost use Rattle.encode_rules.specs.Says.{none};
+ghost use Rattle.encode_rules.specs.Written.{outcome, Encodes};
+ghost use Rattle.encode.specs.steps.Faced as faced;
+ghost use Rattle.encode.specs.steps.Plan.{foundBy};
+use encode_choice::asks;
+use encode_choice::names;
 use record::Operand;
 use record::Record;
 
@@ -71,7 +71,7 @@ fn find(r: Record) -> Plan
     let k = key::key_of(r);
     let opcode = k.opcode;
     let q = asks::asked(k);
-    let c = choose::choose(opcode, q);
+    let c = encode_choice::choose(opcode, q);
     if c.first == 0 {
         return no_plan();
     }

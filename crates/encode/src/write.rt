@@ -2,10 +2,10 @@
 ghost use mathlib.Core.Path.{_≡_};
 ghost use Prim.Native.Nat.{_+_, _≤_};
 ghost use lib.ListN.{length};
-ghost use Rattle.shortest.specs.Digits.{digits};
-ghost use Rattle.shortest.specs.Says.{bytes};
-ghost use Rattle.shortest.specs.Written.{outcome, written};
-ghost use Rattle.encode.specs.Plan.{planned, put};
+ghost use Rattle.encode_rules.specs.steps.Digits.{digits};
+ghost use Rattle.encode_rules.specs.Says.{bytes};
+ghost use Rattle.encode_rules.specs.Written.{outcome, written};
+ghost use Rattle.encode.specs.steps.Plan.{planned, put};
 use crate::Encoded;
 use crate::Plan;
 

@@ -4,8 +4,8 @@ use Prim.Native.Nat.{ℕ}
 use mathlib.Core.Path.{_≡_, refl, sym, _∙_}
 use mathlib.Core.Bool.{Bool, true, false}
 use mathlib.Core.List.{List}
-use Rattle.shortest.specs.Written.{Left}
-use Rattle.shortest.proofs.Written.{encodes-once}
+use Rattle.encode_rules.specs.Written.{Left}
+use Rattle.encode_rules.proofs.Written.{encodes-once}
 use Rattle.m16c_encode.specs.Numbers.{valid, recordOf, EncodesNumbers}
 
 pub encodes-numbers-once : (ns buf : List ℕ) (place : ℕ) (x y : Left) → EncodesNumbers ns buf place x → EncodesNumbers ns buf place y → x ≡ y

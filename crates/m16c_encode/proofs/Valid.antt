@@ -7,7 +7,7 @@ use mathlib.Core.List.{List}
 use lib.ListN.{length, getD}
 use lib.Dec.{leb}
 use borrow.Author.Tests.{leb-true, ltb-true, le-leb, lt-ltb}
-use Rattle.tests.specs.Choice.{both}
+use Rattle.laws.specs.Choice.{both}
 use Rattle.m16c_encode.specs.Numbers.{below, valid}
 
 pub record Bounded (ns : List ℕ) : Type 0 where

@@ -5,10 +5,10 @@ use mathlib.Core.Bool.{Bool, true, false}
 use mathlib.Core.List.{List}
 use lib.ListN.{length, getD}
 use lib.Dec.{ltb, leb}
-use Rattle.tests.specs.Choice.{both}
+use Rattle.laws.specs.Choice.{both}
 use Rattle.record.specs.declared.Record.{Record}
 use Rattle.record.specs.Names.{opcodes, opcodeAt, sizes, sizeAt, widths, widthAt, operands, operandAt}
-use Rattle.shortest.specs.Written.{Left, outcome, Encodes}
+use Rattle.encode_rules.specs.Written.{Left, outcome, Encodes}
 
 -- the number at a place is below a bound
 abbrev pub below : List ℕ → ℕ → ℕ → Bool

@@ -2,7 +2,7 @@
 ghost use mathlib.Core.Path.{_≡_};
 ghost use Prim.Native.Nat.{_≤_, _<_};
 ghost use lib.ListN.{length, getD};
-ghost use Rattle.shortest.specs.Written.{outcome};
+ghost use Rattle.encode_rules.specs.Written.{outcome};
 ghost use Rattle.m16c_encode.specs.Numbers.{valid, recordOf, EncodesNumbers};
 use record::Record;
 use record::names;

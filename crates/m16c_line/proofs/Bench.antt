@@ -7,10 +7,10 @@ use Rattle.record.specs.Same.{sameName, among, fieldOf}
 use Rattle.rows.specs.Rows.{known, rowsOf}
 use Rattle.rows.specs.Codes.{condOf}
 use Rattle.rows.specs.Run.{decodeBy, runRow, run, readDisp, readImm}
-use Rattle.text.specs.Characters.{spelled, digit}
-use Rattle.text.specs.Names.{opcodeNames, opcodeName, operandNames, operandName}
-use Rattle.text.specs.Line.{digitsOf, shown, fromWidth, lineOf}
-use Rattle.text.specs.Left.{left}
+use Rattle.line.specs.Characters.{spelled, digit}
+use Rattle.line.specs.Names.{opcodeNames, opcodeName, operandNames, operandName}
+use Rattle.line.specs.Line.{digitsOf, shown, fromWidth, lineOf}
+use Rattle.line.specs.Left.{left}
 use Rattle.m16c_line.specs.Lined.{untouched, lined}
 
 abbrev bytes : List ℕ

@@ -12,9 +12,9 @@ use borrow.Author.Tests.{eq-eqb, ne-eqb, eqb-true, eqb-false, leb-true, leb-fals
 use Rattle.rows.specs.Rows.{document01}
 use Rattle.rows.specs.Run.{decodeRows}
 use Rattle.rows.proofs.Refusals.{at-most-four}
-use Rattle.text.specs.Line.{lineOf}
-use Rattle.text.specs.Left.{left}
-use Rattle.text.proofs.Lined.{line-short}
+use Rattle.line.specs.Line.{lineOf}
+use Rattle.line.specs.Left.{left}
+use Rattle.line.proofs.Lined.{line-short}
 use Rattle.m16c_line.specs.Lined.{untouched, lined}
 
 -- a number returned, by decoding's refusal, the line's length and the room for it

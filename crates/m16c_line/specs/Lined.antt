@@ -4,11 +4,11 @@ use mathlib.Core.Path.{_≡_}
 use mathlib.Core.List.{List}
 use lib.ListN.{drop}
 use lib.Dec.{eqb}
-use Rattle.tests.specs.Choice.{pick}
+use Rattle.laws.specs.Choice.{pick}
 use Rattle.record.specs.declared.Answer.{Answer}
 use Rattle.rows.specs.Run.{decodeRows}
-use Rattle.text.specs.Line.{lineOf}
-use Rattle.text.specs.Left.{Left, left}
+use Rattle.line.specs.Line.{lineOf}
+use Rattle.line.specs.Left.{Left, left}
 
 -- a refusal, length 0, and every byte as it was
 abbrev pub untouched : ℕ → List ℕ → Left

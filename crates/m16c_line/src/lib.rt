@@ -13,7 +13,7 @@ pub extern "C" fn m16c_line(image: &[u8], at: usize, out: &mut [u8], line_length
         return a.refusal as u32;
     }
     let inst = a.inst;
-    let w = text::line(at, inst, out);
+    let w = line::line(at, inst, out);
     *line_length = w.length;
     w.refusal as u32
 }

@@ -6,10 +6,10 @@ use mathlib.Core.List.{List, []}
 use Prim.Native.Nat.{ℕ, _<_}
 use lib.Dec.{T, eqb, eqb→eq, lit<}
 use lib.ListN.{length, getD}
-use Rattle.tests.specs.Choice.{both}
-use Rattle.tests.specs.Table.{every}
-use Rattle.tests.proofs.Choice.{both-left, both-right}
-use Rattle.tests.proofs.Table.{at}
+use Rattle.laws.specs.Choice.{both}
+use Rattle.laws.specs.Table.{every}
+use Rattle.laws.proofs.Choice.{both-left, both-right}
+use Rattle.laws.proofs.Table.{at}
 use Rattle.manual.specs.Meaning.{Entry, empty}
 use Rattle.manual.specs.Bits.{Condition, conditionAt}
 use Rattle.manual.specs.Entries.{firsts, entryAt, count}

@@ -3,7 +3,7 @@ use Prim.Native.Nat.{ℕ, _+_, _-_}
 use mathlib.Core.List.{[], _∷_}
 use lib.Dec.{ltb}
 use lib.ListN.{getD}
-use Rattle.tests.specs.Choice.{pick}
+use Rattle.laws.specs.Choice.{pick}
 use Rattle.record.specs.declared.Opcode.{Opcode}
 use Rattle.record.specs.declared.Opcode.the-variants.{NOP, BMEQ, BMGEU, BMGT, BMGTU, BMLE, BMLEU, BMLTU, BMLT, BMNO, BMGE, BMN, BMNE, BMO, BMPZ}
 use Rattle.manual.specs.Meaning.{none, carry, Entry, meaning, empty}

@@ -2,7 +2,7 @@
 use Prim.Native.Nat.{ℕ}
 use mathlib.Core.List.{List, [], _∷_}
 use lib.Dec.{ltb}
-use Rattle.tests.specs.Choice.{pick}
+use Rattle.laws.specs.Choice.{pick}
 use Rattle.record.specs.declared.Opcode.{Opcode}
 use Rattle.record.specs.declared.Opcode.the-variants.{ENTER, EXITD, INT, LDC, LDIPL, STC, WAIT}
 use Rattle.record.specs.declared.Operand.the-variants.{Imm8, Imm16, Abs16, Abs20}

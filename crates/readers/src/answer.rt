@@ -1,14 +1,14 @@
 ghost use mathlib.Core.Path.{_≡_};
 ghost use Rattle.rows.specs.Rows.{sizeOf};
 ghost use Rattle.rows.specs.Run.{accepted, begun, refusal};
-ghost use Rattle.readers.specs.Width.{widthOf};
+ghost use Rattle.readers.specs.steps.Width.{widthOf};
 use record::Answer;
 use record::Opcode;
 use record::Operand;
 use record::Record;
+use record::Seen;
 use record::Size;
 use record::Width;
-use rows::Seen;
 
 // An accepted answer: the record, whose length is the bytes taken.
 pub fn accept(

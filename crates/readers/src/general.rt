@@ -3,11 +3,11 @@ ghost use Prim.Native.Nat.{_%_};
 ghost use Rattle.rows.specs.Row.{disp};
 ghost use Rattle.rows.specs.Codes.{nameG, sizeG};
 ghost use Rattle.rows.specs.Run.{reading};
-ghost use Rattle.readers.specs.Width.{widthOf};
+ghost use Rattle.readers.specs.steps.Width.{widthOf};
 use crate::numbers;
+use record::Got;
 use record::Operand;
-use rows::Got;
-use rows::Seen;
+use record::Seen;
 
 // Registers at W, then at B: one table, so that a width picks a place in it and no table is copied twice.
 const NAMES: [Operand; 32] = [

@@ -5,3 +5,4 @@ pub mod general; // Operand_RegDerefDispAbs
 pub mod bit; // Operand_BitRegDerefDispAbs
 pub mod long; // Operand_RegDerefDisp20Abs
 pub mod control; // Operand_IntFlgSpSbFb
+pub mod mul; // the destinations that MUL and MULU refuse

@@ -4,9 +4,9 @@ ghost use Rattle.rows.specs.Codes.{nameJ, noPair, numJ};
 ghost use Rattle.rows.specs.Run.{reading};
 use crate::general;
 use crate::numbers;
+use record::Got;
 use record::Operand;
-use rows::Got;
-use rows::Seen;
+use record::Seen;
 
 const NAMES: [Operand; 16] = [
     Operand::R2R0,

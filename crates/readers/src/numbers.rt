@@ -4,10 +4,10 @@ ghost use Prim.Native.Nat.{_+_, _*_, _%_};
 ghost use Rattle.rows.specs.Row.{disp, imm, imm20};
 ghost use Rattle.rows.specs.Codes.{nameI, sizeI};
 ghost use Rattle.rows.specs.Run.{reading};
-ghost use Rattle.readers.specs.Width.{widthOf};
+ghost use Rattle.readers.specs.steps.Width.{widthOf};
+use record::Got;
 use record::Operand;
-use rows::Got;
-use rows::Seen;
+use record::Seen;
 
 fn wide(x: u8) -> u16
     ensures { λ r. ⌜ r ≡ x ⌝ }

@@ -11,9 +11,9 @@ use lib.ListN.{getD}
 use types.Run.{OneOf}
 use denote.Enum.Declared.{tagOf}
 use borrow.Author.Tests.{eqb-true, eq-eqb}
-use Rattle.tests.specs.Choice.{pick}
-use Rattle.tests.specs.Table.{every}
-use Rattle.tests.proofs.Choice.{both-left, both-right}
+use Rattle.laws.specs.Choice.{pick}
+use Rattle.laws.specs.Table.{every}
+use Rattle.laws.proofs.Choice.{both-left, both-right}
 use Rattle.record.specs.declared.Opcode.{Opcode}
 use Rattle.record.specs.declared.Opcode.the-variants.{NOP}
 use Rattle.record.specs.declared.Operand.{Operand}

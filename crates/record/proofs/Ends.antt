@@ -8,8 +8,8 @@ use native.Mathlib.Omega.{arith}
 use lib.ListN.{length, getD, List·getD-eq-default}
 use lib.Dec.{ltb}
 use borrow.Author.Tests.{ltb-true, ltb-false}
-use Rattle.tests.specs.Range.{Each}
-use Rattle.tests.proofs.Range.{each}
+use Rattle.laws.specs.Range.{Each}
+use Rattle.laws.proofs.Range.{each}
 
 module _ {A : Type 0} (names : List A) (d : A) where
   pub past : (n : ℕ) → length names ≤ n → d ≡ getD names n d

@@ -216,3 +216,17 @@ pub struct Answer {
     pub taken: usize,
     pub refusal: u8,
 }
+
+// What a row's reads pass on from one to the next: the numbers read so far, and the bytes taken.
+pub struct Seen {
+    pub imm_wide: u32,
+    pub dispabs: u16,
+    pub first: u16,
+    pub taken: usize,
+}
+
+// A read went on, or too few bytes were left.
+pub enum Got {
+    On(Seen),
+    Short,
+}

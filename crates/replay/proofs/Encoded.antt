@@ -4,7 +4,7 @@ use Prim.Native.Nat.{ℕ}
 use mathlib.Core.Path.{_≡_, subst}
 use mathlib.Core.List.{List}
 use lib.ListN.{replicate}
-use Rattle.shortest.specs.Written.{Left}
+use Rattle.encode_rules.specs.Written.{Left}
 use Rattle.m16c_encode.specs.Numbers.{EncodesNumbers}
 use Rattle.m16c_encode.proofs.Outcomes.{encodes-numbers-once}
 use Rattle.replay.specs.Encoding.{recordIn, outcomeIn, Right}

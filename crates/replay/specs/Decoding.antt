@@ -5,7 +5,7 @@ use mathlib.Core.List.{List}
 use lib.ListN.{take}
 use Rattle.record.specs.declared.Answer.{Answer}
 use Rattle.rows.specs.Run.{decodeRows}
-use Rattle.text.specs.Characters.{spelled}
+use Rattle.line.specs.Characters.{spelled}
 use Rattle.replay.specs.declared.verdict.Verdict.{Verdict}
 use Rattle.replay.specs.Form.{Gives}
 use Rattle.replay.specs.Hex.{digitAt, bytesAt}

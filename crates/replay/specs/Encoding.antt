@@ -2,9 +2,9 @@
 use Prim.Native.Nat.{ℕ}
 use mathlib.Core.List.{List, [], _∷_}
 use lib.ListN.{replicate}
-use Rattle.shortest.specs.Written.{Left, outcome}
+use Rattle.encode_rules.specs.Written.{Left, outcome}
 use Rattle.m16c_encode.specs.Numbers.{EncodesNumbers}
-use Rattle.text.specs.Characters.{spelled}
+use Rattle.line.specs.Characters.{spelled}
 use Rattle.replay.specs.declared.verdict.Verdict.{Verdict}
 use Rattle.replay.specs.Form.{Has}
 use Rattle.replay.specs.Hex.{digitAt, byteAt, wordAt, longAt, bytesAt}

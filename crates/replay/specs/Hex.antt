@@ -4,7 +4,7 @@ use mathlib.Core.Bool.{Bool}
 use mathlib.Core.List.{List, [], _∷_}
 use lib.Dec.{leb}
 use lib.ListN.{getD}
-use Rattle.tests.specs.Choice.{pick, both, either}
+use Rattle.laws.specs.Choice.{pick, both, either}
 
 unfoldable pub isDigit : ℕ → Bool
 isDigit c = either (both (leb 48 c) (leb c 57)) (both (leb 65 c) (leb c 70))

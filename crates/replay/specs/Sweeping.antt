@@ -4,10 +4,10 @@ use mathlib.Core.Path.{_≡_}
 use mathlib.Core.List.{List, [], _∷_, _++_}
 use lib.Dec.{eqb}
 use lib.ListN.{length, take, replicate}
-use Rattle.tests.specs.Choice.{pick}
+use Rattle.laws.specs.Choice.{pick}
 use Rattle.sweep.specs.Sweep.{Sweeps}
 use Rattle.sweep.specs.declared.Swept.{Swept}
-use Rattle.text.specs.Characters.{spelled}
+use Rattle.line.specs.Characters.{spelled}
 use Rattle.replay.specs.declared.verdict.Verdict.{Verdict}
 use Rattle.replay.specs.Form.{Gives}
 use Rattle.replay.specs.Hex.{digitAt, byteAt, wordAt, bytesAt}

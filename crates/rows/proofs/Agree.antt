@@ -5,10 +5,10 @@ use mathlib.Core.Path.{_≡_, refl, sym, ap, _∙_}
 use mathlib.Core.Bool.{Bool, true, false, not}
 use lib.Dec.{T, eqb, eqb→eq}
 use borrow.Author.Tests.{eq-eqb, ne-eqb}
-use Rattle.tests.specs.Choice.{both, either}
-use Rattle.tests.specs.Range.{upto}
-use Rattle.tests.proofs.Choice.{both-left, both-right}
-use Rattle.tests.proofs.Range.{upto-at}
+use Rattle.laws.specs.Choice.{both, either}
+use Rattle.laws.specs.Range.{upto}
+use Rattle.laws.proofs.Choice.{both-left, both-right}
+use Rattle.laws.proofs.Range.{upto-at}
 use Rattle.manual.specs.Meaning.{Meaning, Entry, meaning, empty}
 use Rattle.manual.specs.Bits as bits
 use Rattle.manual.specs.Bits.{conditionAt}
@@ -23,7 +23,7 @@ use Rattle.rows.specs.Rows.{known, rowsOf, document01}
 use Rattle.rows.specs.Fate.{fate}
 use Rattle.rows.specs.All.{everyCode, countCodes}
 use Rattle.rows.specs.Agree.{recorded, sizeFits}
-use Rattle.rows.specs.Meant.{Agrees, meaningOf}
+use Rattle.rows.specs.steps.Meant.{Agrees, meaningOf}
 use Rattle.rows.specs.Lists.{listedIn, starredRow, exchangedCode, starred, unmeantCode, refusedCode}
 use Rattle.rows.proofs.All.{every-code}
 

@@ -6,9 +6,9 @@ use mathlib.Core.Bool.{Bool, true, false}
 use native.Mathlib.Omega.{arith}
 use lib.Dec.{T, ltb, leb}
 use borrow.Author.Tests.{ltb-false, leb-true, eqb-true}
-use Rattle.tests.specs.Range.{upto}
-use Rattle.tests.proofs.Choice.{both-left, both-right}
-use Rattle.tests.proofs.Range.{upto-at}
+use Rattle.laws.specs.Range.{upto}
+use Rattle.laws.proofs.Choice.{both-left, both-right}
+use Rattle.laws.proofs.Range.{upto-at}
 use Rattle.rows.specs.All.{everyCode}
 use Rattle.rows.specs.Rows.{known}
 

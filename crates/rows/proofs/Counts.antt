@@ -4,7 +4,7 @@ use Prim.Native.Nat.{ℕ, _≤_, _<_}
 use mathlib.Core.Path.{_≡_, refl}
 use mathlib.Core.Bool.{Bool, true}
 use lib.Dec.{T, leb, leb→le}
-use Rattle.tests.specs.Choice.{both}
+use Rattle.laws.specs.Choice.{both}
 use Rattle.rows.specs.All.{everyCode, countCodes}
 use Rattle.rows.specs.Fate.{ends, markedAt, readsAt, reach}
 use Rattle.rows.specs.Rows.{known, rowsOf, document01}

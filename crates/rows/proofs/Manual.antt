@@ -8,8 +8,8 @@ use native.Mathlib.Nat.{mod-eq-of-lt}
 use lib.Dec.{T, eqb, eqb→eq}
 use lib.ListN.{getD}
 use borrow.Author.Tests.{eqb-true}
-use Rattle.tests.specs.Choice.{pick, both}
-use Rattle.tests.proofs.Choice.{both-left, both-right}
+use Rattle.laws.specs.Choice.{pick, both}
+use Rattle.laws.proofs.Choice.{both-left, both-right}
 use Rattle.record.specs.declared.Opcode.{Opcode}
 use Rattle.record.specs.declared.Operand.{Operand}
 use Rattle.record.specs.declared.Operand.the-variants.{Nothing}
@@ -28,7 +28,7 @@ use Rattle.rows.specs.Run.{decodeRows}
 use Rattle.rows.specs.All.{everyCode}
 use Rattle.rows.specs.Spans.{Span, Source, code, read, Naming, byRow, byByte, Spans, spansOf, numberIn, wideIn, namedIn, MadeBy}
 use Rattle.rows.specs.Agree.{numberAt, Shows, inCode, recorded, conditional, mnemonicIn, sizeFits, AsManual}
-use Rattle.rows.specs.Meant.{spot, spotWide, meaningOf}
+use Rattle.rows.specs.steps.Meant.{spot, spotWide, meaningOf}
 use Rattle.rows.proofs.All.{every-code}
 use Rattle.rows.proofs.Agree.{row-agreement, condition}
 use Rattle.rows.proofs.Bytes.{at-bytes, bytes-small}

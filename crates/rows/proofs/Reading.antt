@@ -6,8 +6,8 @@ use mathlib.Core.List.{List}
 use native.Mathlib.Omega.{arith}
 use lib.ListN.{length, getD}
 use borrow.Author.Tests.{le-leb, lt-leb, ne-eqb}
-use Rattle.rows.specs.declared.Seen.{Seen}
-use Rattle.rows.specs.declared.Got.the-variants.{On, Short}
+use Rattle.record.specs.declared.Seen.{Seen}
+use Rattle.record.specs.declared.Got.the-variants.{On, Short}
 use Rattle.rows.specs.Row.{disp, imm, imm20}
 use Rattle.rows.specs.Run.{reading, readDisp, withDisp, readImm, withImm}
 

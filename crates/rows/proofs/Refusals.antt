@@ -8,10 +8,10 @@ use lib.ListN.{length, getD}
 use lib.Dec.{ltb}
 use Rattle.record.specs.declared.Answer.{Answer}
 use Rattle.record.specs.declared.Opcode.{Opcode}
-use Rattle.tests.specs.Choice.{pick}
-use Rattle.rows.specs.declared.Seen.{Seen}
-use Rattle.rows.specs.declared.Got.{Got}
-use Rattle.rows.specs.declared.Got.the-variants.{On, Short}
+use Rattle.laws.specs.Choice.{pick}
+use Rattle.record.specs.declared.Seen.{Seen}
+use Rattle.record.specs.declared.Got.{Got}
+use Rattle.record.specs.declared.Got.the-variants.{On, Short}
 use Rattle.rows.specs.Row.{InvalidOpcode, InvalidOperand, Read, num, cond, stop, Condition, named, unnamed, Face, Table}
 use Rattle.rows.specs.Codes.{condOf}
 use Rattle.rows.specs.Run.{reading, andThen, judged, past, renamed, refusal, run, runRow, begun, decodeBy}

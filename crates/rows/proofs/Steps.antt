@@ -11,9 +11,9 @@ use Rattle.record.specs.declared.Opcode.{Opcode}
 use Rattle.record.specs.declared.Size.{Size}
 use Rattle.record.specs.declared.Width.{Width}
 use Rattle.record.specs.declared.Operand.{Operand}
-use Rattle.rows.specs.declared.Seen.{Seen}
-use Rattle.rows.specs.declared.Got.{Got}
-use Rattle.rows.specs.declared.Got.the-variants.{On, Short}
+use Rattle.record.specs.declared.Seen.{Seen}
+use Rattle.record.specs.declared.Got.{Got}
+use Rattle.record.specs.declared.Got.the-variants.{On, Short}
 use Rattle.rows.specs.Row.{Num, Refusal, refusalNo, Read, num, stop, cond, named, unnamed, Face}
 use Rattle.rows.specs.Codes.{condOf}
 use Rattle.rows.specs.Run.{reading, andThen, accepted, refusal, renamed, past, run}

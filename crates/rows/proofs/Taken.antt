@@ -10,10 +10,10 @@ use lib.Dec.{eqb, leb, ltb}
 use borrow.Author.Tests.{leb-true, leb-false, ltb-true, eqb-true}
 use Rattle.record.specs.declared.Answer.{Answer}
 use Rattle.record.specs.declared.Opcode.{Opcode}
-use Rattle.tests.specs.Choice.{pick}
-use Rattle.rows.specs.declared.Seen.{Seen}
-use Rattle.rows.specs.declared.Got.{Got}
-use Rattle.rows.specs.declared.Got.the-variants.{On, Short}
+use Rattle.laws.specs.Choice.{pick}
+use Rattle.record.specs.declared.Seen.{Seen}
+use Rattle.record.specs.declared.Got.{Got}
+use Rattle.record.specs.declared.Got.the-variants.{On, Short}
 use Rattle.rows.specs.Row.{Num, disp, imm, imm20, InvalidOpcode, InvalidOperand, Read, num, cond, stop, Condition, named, unnamed, Face, Row, Table}
 use Rattle.rows.specs.Codes.{condOf}
 use Rattle.rows.specs.Fate.{bytesOf}

@@ -13,7 +13,7 @@ use Rattle.record.specs.declared.Width.{Width}
 use Rattle.record.specs.declared.Width.the-variants as width
 use Rattle.record.specs.declared.Operand.{Operand}
 use Rattle.record.specs.declared.Operand.the-variants.{Nothing, Imm4}
-use Rattle.tests.specs.Choice.{pick, both, either}
+use Rattle.laws.specs.Choice.{pick, both, either}
 use Rattle.record.specs.Numbers.{opcodeNo, widthNo}
 use Rattle.record.specs.Same.{sameName, key}
 use Rattle.manual.specs.Bits.{Condition, named, conditionAt}

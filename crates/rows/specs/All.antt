@@ -1,8 +1,8 @@
 -- Tests and counts over all codes: the twelve first bytes, 74 to 7E and EB, by 256 second bytes.
 use Prim.Native.Nat.{ℕ, _+_}
 use mathlib.Core.Bool.{Bool}
-use Rattle.tests.specs.Choice.{both}
-use Rattle.tests.specs.Range.{upto, howMany, total}
+use Rattle.laws.specs.Choice.{both}
+use Rattle.laws.specs.Range.{upto, howMany, total}
 
 unfoldable pub everyCode : (ℕ → ℕ → Bool) → Bool
 unfolding upto

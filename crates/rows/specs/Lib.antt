@@ -7,5 +7,5 @@ pub mod Fate
 pub mod All
 pub mod Spans
 pub mod Agree
-pub mod Meant
 pub mod Lists
+pub mod steps

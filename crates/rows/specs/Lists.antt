@@ -3,7 +3,7 @@ use Prim.Native.Nat.{ℕ, _/_, _%_}
 use mathlib.Core.Bool.{Bool, false}
 use mathlib.Core.List.{List, [], _∷_}
 use lib.Dec.{eqb, ltb, leb}
-use Rattle.tests.specs.Choice.{both, either}
+use Rattle.laws.specs.Choice.{both, either}
 
 abbrev pub oneOf : List ℕ → ℕ → Bool
 oneOf [] x = false

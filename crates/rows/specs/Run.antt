@@ -10,11 +10,11 @@ use Rattle.record.specs.declared.Size.{Size}
 use Rattle.record.specs.declared.Width.{Width}
 use Rattle.record.specs.declared.Operand.{Operand}
 use Rattle.record.specs.declared.Operand.the-variants.{Nothing}
-use Rattle.tests.specs.Choice.{pick}
+use Rattle.laws.specs.Choice.{pick}
 use Rattle.record.specs.Blank.{blank}
-use Rattle.rows.specs.declared.Seen.{Seen}
-use Rattle.rows.specs.declared.Got.{Got}
-use Rattle.rows.specs.declared.Got.the-variants.{On, Short}
+use Rattle.record.specs.declared.Seen.{Seen}
+use Rattle.record.specs.declared.Got.{Got}
+use Rattle.record.specs.declared.Got.the-variants.{On, Short}
 use Rattle.rows.specs.Row.{Num, disp, imm, imm20, refusalNo, Read, num, cond, stop, Condition, named, unnamed, Face, Row, Table}
 use Rattle.rows.specs.Codes.{condOf}
 use Rattle.rows.specs.Rows.{document01}

@@ -4,7 +4,7 @@ use mathlib.Core.Path.{_≡_}
 use mathlib.Core.List.{List}
 use lib.ListN.{length, drop, set}
 use lib.Dec.{ltb, leb, eqb}
-use Rattle.tests.specs.Choice.{pick}
+use Rattle.laws.specs.Choice.{pick}
 use Rattle.record.specs.declared.Answer.{Answer}
 use Rattle.rows.specs.Run.{decodeRows}
 use Rattle.sweep.specs.declared.Swept.{Swept}

@@ -4,13 +4,13 @@ use mathlib.Core.Path.{_≡_, refl, sym, ap, _∙_}
 use lib.ListN.{length}
 use borrow.Author.Needs.{needs}
 use borrow.Author.Tests.{eq-eqb, ne-eqb}
-use Rattle.tests.specs.Choice.{pick}
-use Rattle.shortest.specs.Choose.{encoded}
-use Rattle.shortest.specs.Says.{Found, bytes, none}
-use Rattle.shortest.specs.Written.{Left, outcome, written, Encodes}
-use Rattle.shortest.proofs.Chosen.{chosen}
-use Rattle.shortest.proofs.Written.{kept}
-use Rattle.encode.specs.Plan.{planned, foundBy}
+use Rattle.laws.specs.Choice.{pick}
+use Rattle.encode_choice.specs.steps.Choose.{encoded}
+use Rattle.encode_rules.specs.Says.{Found, bytes, none}
+use Rattle.encode_rules.specs.Written.{Left, outcome, written, Encodes}
+use Rattle.encode_choice.proofs.Chosen.{chosen}
+use Rattle.encode_rules.proofs.Written.{kept}
+use Rattle.encode.specs.steps.Plan.{planned, foundBy}
 use Rattle.encode.proofs.Taken.{third}
 use Rattle.encode.proofs.encode.Statement.{statement}
 use Rattle.encode.proofs.encode.Tie as tie

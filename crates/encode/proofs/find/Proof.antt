@@ -8,12 +8,12 @@ use mathlib.Core.List.{_∷_}
 use borrow.Author.Needs.{needs}
 use Rattle.record.specs.declared.Record.{Record}
 use Rattle.record.specs.Same.{key}
-use Rattle.shortest.specs.declared.Asked.{Asked}
-use Rattle.shortest.specs.Direct.{code}
-use Rattle.shortest.specs.Choose as choice
-use Rattle.choose.specs.Coded.{coded}
-use Rattle.encode.specs.Faced as faced
-use Rattle.encode.specs.Slots as slots
+use Rattle.encode_choice.specs.declared.Asked.{Asked}
+use Rattle.encode_rules.specs.steps.Direct.{code}
+use Rattle.encode_choice.specs.steps.Choose as choice
+use Rattle.encode_choice.specs.steps.Coded.{coded}
+use Rattle.encode.specs.steps.Faced as faced
+use Rattle.encode.specs.steps.Slots as slots
 use Rattle.encode.proofs.Taken.{uncoded, not-chosen}
 use Rattle.encode.proofs.Found.{second-below, not-said, said-by}
 use Rattle.encode.proofs.find.Statement.{statement}

@@ -2,8 +2,8 @@
 -- Assumes nothing.
 use mathlib.Core.Path.{sym, ap, _∙_}
 use borrow.Author.Needs.{needs}
-use Rattle.text.specs.Line.{lineOf}
-use Rattle.text.specs.Left.{left}
+use Rattle.line.specs.Line.{lineOf}
+use Rattle.line.specs.Left.{left}
 use Rattle.m16c_line.proofs.Laws.{accepted, refused}
 use Rattle.m16c_line.proofs.m16c_line.Statement.{statement}
 use Rattle.m16c_line.proofs.m16c_line.Tie as tie

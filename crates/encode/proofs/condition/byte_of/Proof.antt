@@ -10,8 +10,8 @@ use Rattle.record.specs.declared.Opcode.{Opcode}
 use Rattle.record.specs.declared.Opcode.the-variants.{BMGTU, BMEQ, BMN, BMLE, BMO, BMGE, BMLTU, BMLEU, BMNE, BMPZ, BMGT, BMNO, BMLT}
 use Rattle.record.proofs.Arms.{otherOpcodes, of-opcodes}
 use Rattle.rows.specs.Codes.{condOf}
-use Rattle.shortest.specs.Search.{condByte}
-use Rattle.shortest.proofs.Bools.{so}
+use Rattle.encode_rules.specs.steps.Search.{condByte}
+use Rattle.encode_rules.proofs.Bools.{so}
 use Rattle.encode.proofs.condition.byte_of.Statement.{statement}
 use Rattle.encode.proofs.condition.byte_of.Tie as tie
 

@@ -4,9 +4,9 @@ use mathlib.Core.List.{[], _∷_}
 use Rattle.record.specs.declared.Operand.the-variants.{Imm8, Imm16, «Bit_R0», «Bit_R1», «Bit_R2», «Bit_R3», «Bit_A0», «Bit_A1», «Bit_Disp8_A0», «Bit_Disp8_A1», «Bit_Disp8_SB», «Bit_Disp8_FB», «Bit_Disp16_A0», «Bit_Disp16_A1», «Bit_Disp16_SB», «Bit_Abs16», «Disp8_A0», «Disp8_A1», «Disp8_SB», «Disp8_FB», «Disp8_SP», «Disp16_A0», «Disp16_A1», «Disp16_SB», «Disp20_A0», «Disp20_A1», Abs16, Abs20, Disp8}
 use Rattle.record.specs.Same.{sameName, among}
 use Rattle.record.proofs.Arms.{keys, others}
-use Rattle.choose.proofs.Placed.{by-names}
-use Rattle.encode.specs.Slots.{near, far}
-use Rattle.encode.specs.Slots.{countOf}
+use Rattle.encode_choice.proofs.Placed.{by-names}
+use Rattle.encode.specs.steps.Slots.{near, far}
+use Rattle.encode.specs.steps.Slots.{countOf}
 use Rattle.encode.proofs.counts.count.Statement.{statement}
 use Rattle.encode.proofs.counts.count.Tie as tie
 

@@ -3,7 +3,7 @@
 use mathlib.Core.Path.{ap, _∙_}
 use borrow.Author.Needs.{needs}
 use Rattle.record.specs.Same.{fieldOf}
-use Rattle.encode.specs.Value.{valued}
+use Rattle.encode.specs.steps.Value.{valued}
 use Rattle.encode.proofs.Value.{value0, value1, value2}
 use Rattle.encode.proofs.key.key_of.Statement.{statement}
 use Rattle.encode.proofs.key.key_of.Tie as tie

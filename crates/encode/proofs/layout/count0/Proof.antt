@@ -3,8 +3,8 @@
 use mathlib.Core.Path.{sym, ap, _∙_}
 use native.Mathlib.Omega.{arith}
 use borrow.Author.Needs.{needs}
-use Rattle.tests.specs.Choice.{pick}
-use Rattle.encode.specs.Slots.{countOf}
+use Rattle.laws.specs.Choice.{pick}
+use Rattle.encode.specs.steps.Slots.{countOf}
 use Rattle.encode.proofs.Narrowed.{whole-base}
 use Rattle.encode.proofs.layout.count0.Statement.{statement}
 use Rattle.encode.proofs.layout.count0.Tie as tie

@@ -3,8 +3,8 @@
 use mathlib.Core.Path.{ap, ap₂, _∙_}
 use lib.Dec.{ltb}
 use borrow.Author.Needs.{needs}
-use Rattle.tests.specs.Choice.{both}
-use Rattle.encode.specs.Slots as slots
+use Rattle.laws.specs.Choice.{both}
+use Rattle.encode.specs.steps.Slots as slots
 use Rattle.encode.proofs.layout.fits.Statement.{statement}
 use Rattle.encode.proofs.layout.fits.Tie as tie
 

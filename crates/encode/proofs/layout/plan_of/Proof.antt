@@ -3,9 +3,9 @@
 use mathlib.Core.Path.{_∙_}
 use mathlib.Core.List.{_∷_, _++_}
 use borrow.Author.Needs.{needs}
-use Rattle.tests.specs.Choice.{pick}
-use Rattle.shortest.specs.Digits.{digits}
-use Rattle.encode.specs.Slots as slots
+use Rattle.laws.specs.Choice.{pick}
+use Rattle.encode_rules.specs.steps.Digits.{digits}
+use Rattle.encode.specs.steps.Slots as slots
 use Rattle.encode.proofs.layout.plan_of.Statement.{statement}
 use Rattle.encode.proofs.layout.plan_of.Tie as tie
 

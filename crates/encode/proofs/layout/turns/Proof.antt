@@ -4,7 +4,7 @@ use mathlib.Core.Bool.{true, false}
 use mathlib.Core.List.{[], _∷_}
 use Rattle.record.specs.declared.Operand.the-variants.{Imm4, Imm8, Imm16, «Disp8_SP», «Disp20_A0», «Disp20_A1», Abs20, Disp8, RegList}
 use Rattle.record.specs.Same.{sameName, among, fieldOf}
-use Rattle.encode.specs.Slots as slots
+use Rattle.encode.specs.steps.Slots as slots
 use Rattle.record.proofs.Arms.{keys, others, tested}
 use Rattle.encode.proofs.layout.turns.Statement.{statement}
 use Rattle.encode.proofs.layout.turns.Tie as tie

@@ -5,8 +5,8 @@ use mathlib.Core.Path.{sym, ap, _∙_, subst}
 use native.Mathlib.Omega.{arith}
 use lib.ListN.{length, length-drop}
 use borrow.Author.Needs.{needs}
-use Rattle.encode.specs.Plan.{planned}
-use Rattle.lent.proofs.Rest.{rest}
+use Rattle.encode.specs.steps.Plan.{planned}
+use Rattle.laws.proofs.Rest.{rest}
 use Rattle.encode.proofs.Room.{none, some, planned-length}
 use Rattle.encode.proofs.write.write_at.Statement.{statement}
 use Rattle.encode.proofs.write.write_at.Tie as tie

@@ -5,7 +5,7 @@ use mathlib.Core.Path.{_≡_, sym, ap, _∙_}
 use mathlib.Core.List.{List}
 use native.Mathlib.Omega.{arith}
 use borrow.Author.Needs.{needs}
-use Rattle.shortest.specs.Written.{outcome}
+use Rattle.encode_rules.specs.Written.{outcome}
 use Rattle.replay.proofs.Answer.{refuted}
 use Rattle.replay.proofs.Encoded.{right, said}
 use Rattle.replay.proofs.encoding.agrees.Statement.{statement}

@@ -1,0 +1,59 @@
+-- 74 and 75 as the code takes them apart: by tables of h. (The law that this is document 01's row is in proofs/Table74.)
+use Prim.Native.Nat.{ℕ, _%_}
+use mathlib.Core.Bool.{Bool, true, false}
+use mathlib.Core.List.{[], _∷_}
+use lib.ListN.{getD}
+use lib.Dec.{ltb, eqb}
+use Rattle.laws.specs.Choice.{pick}
+use Rattle.record.specs.declared.Opcode.{Opcode}
+use Rattle.record.specs.declared.Opcode.the-variants.{NOP, STE, MOV, PUSH, NEG, ROT, NOT, LDE, POP, SHL, SHA}
+use Rattle.record.specs.declared.Size.{Size}
+use Rattle.record.specs.declared.Size.the-variants as size
+use Rattle.record.specs.declared.Width.{Width}
+use Rattle.record.specs.declared.Operand.{Operand}
+use Rattle.record.specs.declared.Operand.the-variants.{Nothing, Abs20, «Disp20_A0», «Deref_A1A0», «Disp8_SP», R1H}
+use Rattle.rows.specs.Row.{Num, disp, imm, imm20, num, Row}
+use Rattle.rows.specs.Codes.{nameG, nameI, sizeI, G, refuse}
+use Rattle.rows.specs.Rows.{sizeOf, badShift}
+
+abbrev pub opcode74 : ℕ → Opcode
+opcode74 h = getD (STE ∷ STE ∷ STE ∷ MOV ∷ PUSH ∷ NEG ∷ ROT ∷ NOT ∷ LDE ∷ LDE ∷ LDE ∷ MOV ∷ MOV ∷ POP ∷ SHL ∷ SHA ∷ []) h NOP
+
+-- MOV, PUSH, ROT, NOT, SHL and SHA carry one
+abbrev pub size74 : Width → ℕ → Size
+size74 w h = pick (ltb (h % 8) 3) size.None (pick (eqb (h % 8) 5) size.None (sizeOf w))
+
+-- the operand beside G(n)
+abbrev pub other74 : Width → ℕ → Operand
+other74 w h =
+    pick (eqb h 12) (nameI w)
+    (getD (Abs20 ∷ «Disp20_A0» ∷ «Deref_A1A0» ∷ «Disp8_SP» ∷ Nothing ∷ Nothing ∷ R1H ∷ Nothing ∷ Abs20 ∷ «Disp20_A0» ∷ «Deref_A1A0» ∷ «Disp8_SP» ∷ Nothing ∷ Nothing ∷ R1H ∷ R1H ∷ []) h Nothing)
+
+-- whether G(n) is operand 0
+abbrev pub first74 : ℕ → Bool
+first74 h = pick (ltb h 6) true (pick (eqb h 7) true (eqb h 13))
+
+-- what is read behind G(n)
+abbrev pub rest74 : Width → ℕ → Num
+rest74 w h = pick (ltb (h % 8) 2) imm20 (pick (eqb h 11) (disp 1) (pick (eqb h 12) (imm (sizeI w)) (disp 0)))
+
+-- ROT, SHL, SHA
+abbrev pub shift74 : ℕ → Bool
+shift74 h = pick (eqb h 6) true (pick (eqb h 14) true (eqb h 15))
+
+abbrev pub stop74 : Width → ℕ → ℕ → Bool
+stop74 w h n = pick (shift74 h) (badShift w n) false
+
+unfoldable pub table74 : Width → ℕ → ℕ → Row
+table74 w h n = record {
+  face = record {
+    opcode = opcode74 h;
+    size = size74 w h;
+    width = w;
+    op0 = pick (first74 h) (nameG w n) (other74 w h);
+    op1 = pick (first74 h) (other74 w h) (nameG w n);
+    marked = eqb h 3;
+  };
+  number = 0;
+  reads = refuse (stop74 w h n) (G n ∷ num (rest74 w h) ∷ []);
+}

@@ -1,0 +1,30 @@
+ghost use mathlib.Core.Path.{_≡_};
+ghost use Prim.Native.Nat.{_/_, _%_};
+ghost use Rattle.rows.specs.Rows.{xchg};
+ghost use Rattle.rows.specs.Run.{runRow};
+ghost use Rattle.readers.specs.steps.Width.{widthOf};
+use readers::answer;
+use readers::general;
+use record::Answer;
+use record::Got;
+use record::Opcode;
+
+// XCHG: the register by the second byte's high nibble, G by its low one.
+pub fn exchange(bs: &[u8], byte: bool, b: u8) -> Answer
+    ensures { λ r. ⌜ r ≡ runRow (xchg (widthOf byte) (b / 16) (b % 16)) (now (bs .entry)) ⌝ }
+{
+    let source = general::general_name(byte, b / 16);
+    let dest = general::general_name(byte, b);
+    match general::general(bs, answer::BEGIN, b % 16) {
+        Got::Short => answer::refuse(1, bs.len()),
+        Got::On(s) => answer::accept(
+            Opcode::XCHG,
+            answer::size_of(byte),
+            answer::width_of(byte),
+            source,
+            dest,
+            false,
+            s,
+        ),
+    }
+}

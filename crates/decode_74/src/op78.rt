@@ -1,0 +1,42 @@
+ghost use mathlib.Core.Path.{_≡_};
+ghost use Prim.Native.Nat.{_/_, _%_};
+ghost use Rattle.rows.specs.Rows.{row78};
+ghost use Rattle.rows.specs.Run.{runRow};
+ghost use Rattle.readers.specs.steps.Width.{widthOf};
+use readers::answer;
+use readers::general;
+use readers::mul;
+use record::Answer;
+use record::Got;
+use record::Opcode;
+use record::Size;
+
+// MUL: the source is read before the destination is judged.
+pub fn decode_op78(bs: &[u8], byte: bool, b: u8) -> Answer
+    ensures { λ r. ⌜ r ≡ runRow (row78 (widthOf byte) (b / 16) (b % 16)) (now (bs .entry)) ⌝ }
+{
+    let h = b / 16;
+    let n = b % 16;
+    let source = general::general_name(byte, h);
+    let dest = general::general_name(byte, b);
+    match general::general(bs, answer::BEGIN, h) {
+        Got::Short => answer::refuse(1, bs.len()),
+        Got::On(s) => {
+            if mul::bad_mul(byte, n) {
+                return answer::refuse(3, s.taken);
+            }
+            match general::general(bs, s, n) {
+                Got::Short => answer::refuse(1, bs.len()),
+                Got::On(t) => answer::accept(
+                    Opcode::MUL,
+                    Size::None,
+                    answer::width_of(byte),
+                    source,
+                    dest,
+                    false,
+                    t,
+                ),
+            }
+        }
+    }
+}

@@ -1,0 +1,4 @@
+pub mod Plan
+pub mod Faced
+pub mod Value
+pub mod Slots

@@ -1,0 +1,10 @@
+pub mod Coarse
+pub mod Tested
+pub mod Formed
+pub mod Chosen
+pub mod Encoded
+pub mod Bench
+pub mod Whole
+pub mod Placed
+pub mod OrImm
+pub mod SetBits

@@ -1,0 +1,249 @@
+-- The direct choice for document 01: the opcode gives the few rows, each operand's base and number its name, and that the nibble.
+-- (A name outside a list has no code there; no names that go together come to that.)
+use Prim.Native.Nat.{ℕ, suc, _+_, _*_}
+use mathlib.Core.Bool.{Bool, true, false}
+use mathlib.Core.List.{List, [], _∷_}
+use lib.Dec.{ltb, eqb}
+use Rattle.laws.specs.Choice.{pick, both}
+use Rattle.record.specs.declared.Record.{Record}
+use Rattle.record.specs.declared.Opcode.{Opcode}
+use Rattle.record.specs.declared.Opcode.the-variants.{NOP, ABS, ADC, ADCF, ADD, AND, BAND, BCLR, BMEQ, BMGEU, BMGT, BMGTU, BMLE, BMLEU, BMLTU, BMLT, BMNO, BMGE, BMN, BMNE, BMO, BMPZ, BNAND, BNOR, BNOT, BNTST, BNXOR, BOR, BSET, BTST, BTSTC, BTSTS, BXOR, CMP, DADC, DADD, DIV, DIVU, DIVX, DSBB, DSUB, ENTER, EXITD, EXTS, FCLR, FSET, GE, INT, JGE, JGT, JLE, JLT, JMPI, JNO, JO, JSRI, LDC, LDCTX, LDE, LDIPL, LT, MOV, MOVA, MOVHH, MOVHL, MOVLH, MOVLL, MUL, MULU, NEG, NO, NOT, OR, POP, POPC, POPM, PUSH, PUSHA, PUSHC, PUSHM, RMPA, ROLC, RORC, ROT, SBB, SHA, SHL, SMOVB, SMOVF, SSTR, STC, STCTX, STE, SUB, TST, WAIT, XCHG, XOR}
+use Rattle.record.specs.declared.Size.{Size}
+use Rattle.record.specs.declared.Size.the-variants as size
+use Rattle.record.specs.declared.Width.{Width}
+use Rattle.record.specs.declared.Width.the-variants.{None, B, W}
+use Rattle.record.specs.declared.Operand.{Operand}
+use Rattle.record.specs.declared.Operand.the-variants.{Nothing, Imm4, R0L, R0, R2R0, R3R1, A1A0, Abs16, Abs20, «Deref_A0», «Deref_A1», «Disp8_A0», «Disp8_A1», «Disp8_SB», «Disp8_FB», «Disp8_SP», «Disp16_A0», «Disp16_A1», «Disp16_SB», «Disp20_A0», «Disp20_A1», «Bit_R0», «Bit_R1», «Bit_R2», «Bit_R3», «Bit_A0», «Bit_A1», «Bit_Deref_A0», «Bit_Deref_A1», «Bit_Disp8_A0», «Bit_Disp8_A1», «Bit_Disp8_SB», «Bit_Disp8_FB», «Bit_Disp16_A0», «Bit_Disp16_A1», «Bit_Disp16_SB», «Bit_Abs16», INTBL, INTBH, FLG, ISP, SP, SB, FB}
+use Rattle.record.specs.Numbers.{opcodeNo}
+use Rattle.record.specs.declared.Key.{Key}
+use Rattle.record.specs.Same.{sameName, Field, nowhere, wide, short, early, fieldOf, key}
+use Rattle.rows.specs.Codes.{byteNames, wordNames}
+use Rattle.rows.specs.Rows.{document01}
+use Rattle.encode_choice.specs.declared.Asked.{Asked}
+use Rattle.encode_rules.specs.Says.{Found}
+use Rattle.encode_rules.specs.steps.Direct.{Choice, code, nothing, taken}
+use Rattle.encode_choice.specs.steps.Coarse.{wholeKey}
+use Rattle.encode_choice.specs.steps.Forms.{formOf, goesWith}
+
+-- the shortest name for a base, as its number is 0, or below 256
+abbrev pub narrow : Operand → Bool → Bool → Operand
+narrow o z s =
+    pick (sameName o «Disp16_A0») (pick z «Deref_A0» (pick s «Disp8_A0» «Disp16_A0»))
+    (pick (sameName o «Disp16_A1») (pick z «Deref_A1» (pick s «Disp8_A1» «Disp16_A1»))
+    (pick (sameName o «Disp16_SB») (pick s «Disp8_SB» «Disp16_SB») o))
+
+-- no row of MOVA or PUSHA names Deref: there a displacement of 0 is not dropped
+unfoldable pub dropsZero : Opcode → Bool
+dropsZero o = pick (eqb (opcodeNo o) (opcodeNo MOVA)) false (pick (eqb (opcodeNo o) (opcodeNo PUSHA)) false true)
+
+-- what the choice asks of a key beside the opcode
+abbrev pub asked : Key → Asked
+asked k = record {
+  size = k .size;
+  width = k .width;
+  op0 = narrow (k .base0) (both (dropsZero (k .opcode)) (eqb (k .number0) 0)) (ltb (k .number0) 256);
+  op1 = narrow (k .base1) (eqb (k .number1) 0) (ltb (k .number1) 256);
+  number = pick (wholeKey k) (k .number0) 0;
+}
+
+-- the codes of names
+unfoldable pub place : List Operand → Operand → ℕ
+place [] o = 0
+place (x ∷ xs) o = pick (sameName x o) 0 (suc (place xs o))
+
+abbrev pub codeG : Width → Operand → ℕ
+codeG B o = place byteNames o
+codeG W o = place wordNames o
+codeG None o = place wordNames o
+
+abbrev pub codeT : Operand → ℕ
+codeT o = place («Bit_R0» ∷ «Bit_R1» ∷ «Bit_R2» ∷ «Bit_R3» ∷ «Bit_A0» ∷ «Bit_A1» ∷ «Bit_Deref_A0» ∷ «Bit_Deref_A1» ∷ «Bit_Disp8_A0» ∷ «Bit_Disp8_A1» ∷ «Bit_Disp8_SB» ∷ «Bit_Disp8_FB» ∷ «Bit_Disp16_A0» ∷ «Bit_Disp16_A1» ∷ «Bit_Disp16_SB» ∷ «Bit_Abs16» ∷ []) o
+
+abbrev pub codeJ : Operand → ℕ
+codeJ o = place (R2R0 ∷ R3R1 ∷ Nothing ∷ Nothing ∷ A1A0 ∷ Nothing ∷ «Deref_A0» ∷ «Deref_A1» ∷ «Disp8_A0» ∷ «Disp8_A1» ∷ «Disp8_SB» ∷ «Disp8_FB» ∷ «Disp20_A0» ∷ «Disp20_A1» ∷ «Disp16_SB» ∷ Abs16 ∷ []) o
+
+abbrev pub codeK : Operand → ℕ
+codeK o = place (Nothing ∷ INTBL ∷ INTBH ∷ FLG ∷ ISP ∷ SP ∷ SB ∷ FB ∷ []) o
+
+-- the first byte of a pair, by width
+abbrev pub word : Width → ℕ
+word B = 0
+word W = 1
+word None = 1
+
+-- no operand in the second byte
+abbrev pub only : ℕ → ℕ → Asked → Choice
+only f b q = code (f + word (q .width)) b
+
+-- operand 0 is G(n)
+abbrev pub unary : ℕ → ℕ → Asked → Choice
+unary f h q = code (f + word (q .width)) (16 * h + codeG (q .width) (q .op0))
+
+-- operand 1 is G(n)
+abbrev pub binary : ℕ → ℕ → Asked → Choice
+binary f h q = code (f + word (q .width)) (16 * h + codeG (q .width) (q .op1))
+
+-- both are
+abbrev pub twice : ℕ → Asked → Choice
+twice f q = code (f + word (q .width)) (16 * codeG (q .width) (q .op0) + codeG (q .width) (q .op1))
+
+-- 7E
+abbrev pub bit : ℕ → Asked → Choice
+bit h q = code 0x7E (16 * h + codeT (q .op0))
+
+-- the condition of a flag, 7D D, or of a bit
+abbrev pub onWidth : Width → Choice → Choice → Choice
+onWidth W x y = x
+onWidth B x y = y
+onWidth None x y = y
+
+abbrev pub condition : ℕ → Asked → Choice
+condition n q = onWidth (q .width) (code 0x7D (0xD0 + n)) (bit 2 q)
+
+-- an immediate as operand 0, or another
+abbrev pub onField : Field → Choice → Choice → Choice
+onField wide x y = x
+onField nowhere x y = y
+onField short x y = y
+onField early x y = y
+
+abbrev pub orImm : Choice → Choice → Asked → Choice
+orImm x y q = onField (fieldOf (q .op0)) x y
+
+abbrev pub decimal : ℕ → Asked → Choice
+decimal i q = orImm (only 0x7C (0xEC + i) q) (only 0x7C (0xE4 + i) q) q
+
+-- MOVLL and the like: to R0L, which comes first, or from it
+abbrev pub half : ℕ → Asked → Choice
+half h q = pick (sameName (q .op1) R0L) (code 0x7C (16 * h + codeG B (q .op0))) (pick (sameName (q .op0) R0L) (code 0x7C (16 * (8 + h) + codeG B (q .op1))) nothing)
+
+-- STE and LDE, by the operand beside G(n)
+abbrev pub far : Operand → ℕ
+far o = pick (sameName o Abs20) 0 (pick (sameName o «Disp20_A0») 1 2)
+
+-- SHL and SHA: at size L a pair, by R1H or by Imm4
+abbrev pub pair : Operand → ℕ
+pair o = pick (sameName o R2R0) 0 1
+
+abbrev pub long : ℕ → Asked → Choice
+long s q = pick (sameName (q .op0) Imm4) (code 0xEB (16 * (8 + s + pair (q .op1)) + q .number)) (code 0xEB (16 * (s + pair (q .op1)) + 1))
+
+abbrev pub onSize : Size → Choice → Choice → Choice
+onSize size.L x y = x
+onSize size.None x y = y
+onSize size.B x y = y
+onSize size.W x y = y
+
+abbrev pub shift : ℕ → ℕ → Asked → Choice
+shift h s q = onSize (q .size) (long s q) (binary 0x74 h q)
+
+unfoldable pub chooseBy : Opcode → Asked → Choice
+chooseBy NOP q = nothing
+chooseBy ABS q = unary 0x76 0xF q
+chooseBy ADC q = binary 0x76 6 q
+chooseBy ADCF q = nothing
+chooseBy ADD q = pick (sameName (q .op1) SP) (only 0x7C 0xEB q) (binary 0x76 4 q)
+chooseBy AND q = binary 0x76 2 q
+chooseBy BAND q = bit 4 q
+chooseBy BCLR q = bit 8 q
+chooseBy BMEQ q = condition 2 q
+chooseBy BMGEU q = condition 0 q
+chooseBy BMGT q = condition 0xC q
+chooseBy BMGTU q = condition 1 q
+chooseBy BMLE q = condition 8 q
+chooseBy BMLEU q = condition 5 q
+chooseBy BMLTU q = condition 4 q
+chooseBy BMLT q = bit 2 q
+chooseBy BMNO q = bit 2 q
+chooseBy BMGE q = bit 2 q
+chooseBy BMN q = condition 3 q
+chooseBy BMNE q = condition 6 q
+chooseBy BMO q = condition 9 q
+chooseBy BMPZ q = condition 7 q
+chooseBy BNAND q = bit 5 q
+chooseBy BNOR q = bit 7 q
+chooseBy BNOT q = bit 0xA q
+chooseBy BNTST q = bit 3 q
+chooseBy BNXOR q = bit 0xD q
+chooseBy BOR q = bit 6 q
+chooseBy BSET q = bit 9 q
+chooseBy BTST q = bit 0xB q
+chooseBy BTSTC q = bit 0 q
+chooseBy BTSTS q = bit 1 q
+chooseBy BXOR q = bit 0xC q
+chooseBy CMP q = binary 0x76 8 q
+chooseBy DADC q = decimal 2 q
+chooseBy DADD q = decimal 0 q
+chooseBy DIV q = orImm (only 0x7C 0xE1 q) (unary 0x76 0xD q) q
+chooseBy DIVU q = only 0x7C 0xE0 q
+chooseBy DIVX q = only 0x7C 0xE3 q
+chooseBy DSBB q = decimal 3 q
+chooseBy DSUB q = decimal 1 q
+chooseBy ENTER q = code 0x7C 0xF2
+chooseBy EXITD q = code 0x7D 0xF2
+chooseBy EXTS q = pick (sameName (q .op0) R0) (code 0x7C 0xF3) (code 0x7C (0x60 + codeG B (q .op0)))
+chooseBy FCLR q = nothing
+chooseBy FSET q = nothing
+chooseBy GE q = nothing
+chooseBy INT q = code 0xEB (0xC0 + q .number)
+chooseBy JGE q = code 0x7D 0xCA
+chooseBy JGT q = code 0x7D 0xCC
+chooseBy JLE q = code 0x7D 0xC8
+chooseBy JLT q = code 0x7D 0xCE
+chooseBy JMPI q = code 0x7D (codeJ (q .op0))
+chooseBy JNO q = code 0x7D 0xCD
+chooseBy JO q = code 0x7D 0xC9
+chooseBy JSRI q = code 0x7D (0x10 + codeJ (q .op0))
+chooseBy LDC q = code 0xEB (16 * codeK (q .op1))
+chooseBy LDCTX q = code 0x7C 0xF0
+chooseBy LDE q = binary 0x74 (8 + far (q .op0)) q
+chooseBy LDIPL q = nothing
+chooseBy LT q = nothing
+chooseBy MOV q = binary 0x74 (pick (sameName (q .op0) «Disp8_SP») 0xB 0xC) q
+chooseBy MOVA q = code 0xEB (16 * codeG W (q .op1) + codeG W (q .op0))
+chooseBy MOVHH q = half 3 q
+chooseBy MOVHL q = half 2 q
+chooseBy MOVLH q = half 1 q
+chooseBy MOVLL q = half 0 q
+chooseBy MUL q = twice 0x78 q
+chooseBy MULU q = nothing
+chooseBy NEG q = unary 0x74 5 q
+chooseBy NO q = nothing
+chooseBy NOT q = unary 0x74 7 q
+chooseBy OR q = binary 0x76 3 q
+chooseBy POP q = unary 0x74 0xD q
+chooseBy POPC q = code 0xEB (16 * codeK (q .op0) + 3)
+chooseBy POPM q = nothing
+chooseBy PUSH q = orImm (only 0x7C 0xE2 q) (unary 0x74 4 q) q
+chooseBy PUSHA q = code 0x7D (0x90 + codeG W (q .op0))
+chooseBy PUSHC q = code 0xEB (16 * codeK (q .op0) + 2)
+chooseBy PUSHM q = nothing
+chooseBy RMPA q = only 0x7C 0xF1 q
+chooseBy ROLC q = unary 0x76 0xA q
+chooseBy RORC q = unary 0x76 0xB q
+chooseBy ROT q = binary 0x74 6 q
+chooseBy SBB q = binary 0x76 7 q
+chooseBy SHA q = shift 0xF 2 q
+chooseBy SHL q = shift 0xE 0 q
+chooseBy SMOVB q = only 0x7C 0xE9 q
+chooseBy SMOVF q = only 0x7C 0xE8 q
+chooseBy SSTR q = only 0x7C 0xEA q
+chooseBy STC q = code 0x7B (16 * (8 + codeK (q .op1)) + codeG W (q .op0))
+chooseBy STCTX q = code 0x7D 0xF0
+chooseBy STE q = unary 0x74 (far (q .op1)) q
+chooseBy SUB q = binary 0x76 5 q
+chooseBy TST q = binary 0x76 0 q
+chooseBy WAIT q = code 0x7D 0xF3
+chooseBy XCHG q = twice 0x7A q
+chooseBy XOR q = binary 0x76 1 q
+
+-- the code, if these are names that the opcode has in an unmarked row
+unfoldable pub chooseNamed : Opcode → Asked → Choice
+chooseNamed o q = pick (goesWith (formOf o) q) (chooseBy o q) nothing
+
+abbrev pub choose : Key → Choice
+choose k = chooseNamed (k .opcode) (asked k)
+
+-- what document 01's encoder finds for a record
+abbrev pub encoded : Record → Found
+encoded r = taken document01 (choose (key r)) (key r)

@@ -1,0 +1,193 @@
+// Codes that several opcodes have in common, by the high nibble h or the like; n is the code of an operand.
+ghost use mathlib.Core.Path.{_≡_};
+ghost use Prim.Native.Nat.{_≤_};
+ghost use Rattle.encode_choice.specs.steps.Choose as choice;
+ghost use Rattle.encode_choice.specs.steps.Coded.{coded};
+use crate::Asked;
+use crate::Code;
+use crate::codes;
+use crate::names;
+use record::Operand;
+use record::Size;
+use record::Width;
+
+// Which of a pair of first bytes: the second one is for words.
+fn word(w: Width) -> u8
+    ensures { λ r. ⌜ (r ≡ choice.word w) × (r ≤ 1) ⌝ }
+{
+    match w {
+        Width::B => 0,
+        Width::W => 1,
+        Width::None => 1,
+    }
+}
+
+// No operand in the second byte.
+pub(crate) fn only(f: u8, b: u64, q: Asked) -> Code
+    requires { ⌜ f ≤ 0x7C ⌝ }
+    ensures { λ r. ⌜ r ≡ coded (choice.only f b q) ⌝ }
+{
+    let width = q.width;
+    Code {
+        first: f + word(width),
+        second: b,
+    }
+}
+
+// Operand 0 is G(n).
+pub(crate) fn unary(f: u8, h: u64, q: Asked) -> Code
+    requires { ⌜ (f ≤ 0x7C) × (h ≤ 15) ⌝ }
+    ensures { λ r. ⌜ r ≡ coded (choice.unary f h q) ⌝ }
+{
+    let width = q.width;
+    let op0 = q.op0;
+    Code {
+        first: f + word(width),
+        second: 16 * h + codes::code_g(width, op0),
+    }
+}
+
+// Operand 1 is G(n).
+pub(crate) fn binary(f: u8, h: u64, q: Asked) -> Code
+    requires { ⌜ (f ≤ 0x7C) × (h ≤ 15) ⌝ }
+    ensures { λ r. ⌜ r ≡ coded (choice.binary f h q) ⌝ }
+{
+    let width = q.width;
+    let op1 = q.op1;
+    Code {
+        first: f + word(width),
+        second: 16 * h + codes::code_g(width, op1),
+    }
+}
+
+// Operands 0 and 1 are G(h) and G(n).
+pub(crate) fn twice(f: u8, q: Asked) -> Code
+    requires { ⌜ f ≤ 0x7C ⌝ }
+    ensures { λ r. ⌜ r ≡ coded (choice.twice f q) ⌝ }
+{
+    let width = q.width;
+    let op0 = q.op0;
+    let op1 = q.op1;
+    Code {
+        first: f + word(width),
+        second: 16 * codes::code_g(width, op0) + codes::code_g(width, op1),
+    }
+}
+
+// 7E: operand 0 is T(n).
+pub(crate) fn bit(h: u64, q: Asked) -> Code
+    requires { ⌜ h ≤ 15 ⌝ }
+    ensures { λ r. ⌜ r ≡ coded (choice.bit h q) ⌝ }
+{
+    let op0 = q.op0;
+    Code {
+        first: 0x7E,
+        second: 16 * h + codes::code_t(op0),
+    }
+}
+
+// The condition of a flag, 7D D, or of a bit.
+pub(crate) fn condition(n: u64, q: Asked) -> Code
+    requires { ⌜ n ≤ 15 ⌝ }
+    ensures { λ r. ⌜ r ≡ coded (choice.condition n q) ⌝ }
+{
+    let w = q.width;
+    match w {
+        Width::W => Code {
+            first: 0x7D,
+            second: 0xD0 + n,
+        },
+        Width::B => bit(2, q),
+        Width::None => bit(2, q),
+    }
+}
+
+// DADD and the like: an immediate, or registers.
+pub(crate) fn decimal(i: u64, q: Asked) -> Code
+    requires { ⌜ i ≤ 3 ⌝ }
+    ensures { λ r. ⌜ r ≡ coded (choice.decimal i q) ⌝ }
+{
+    let op0 = q.op0;
+    if names::is_wide(op0) {
+        only(0x7C, 0xEC + i, q)
+    } else {
+        only(0x7C, 0xE4 + i, q)
+    }
+}
+
+// MOVLL and the like: to R0L, which comes first, or from it.
+pub(crate) fn half(h: u64, q: Asked) -> Code
+    requires { ⌜ h ≤ 3 ⌝ }
+    ensures { λ r. ⌜ r ≡ coded (choice.half h q) ⌝ }
+{
+    let op0 = q.op0;
+    let op1 = q.op1;
+    if names::same(op1, Operand::R0L) {
+        return Code {
+            first: 0x7C,
+            second: 16 * h + codes::code_g(Width::B, op0),
+        };
+    }
+    if names::same(op0, Operand::R0L) {
+        return Code {
+            first: 0x7C,
+            second: 16 * (8 + h) + codes::code_g(Width::B, op1),
+        };
+    }
+    Code {
+        first: 0,
+        second: 0,
+    }
+}
+
+// STE and LDE: the operand beside G(n).
+pub(crate) fn far(o: Operand) -> u64
+    ensures { λ r. ⌜ (r ≡ choice.far o) × (r ≤ 2) ⌝ }
+{
+    match o {
+        Operand::Abs20 => 0,
+        Operand::Disp20_A0 => 1,
+        _ => 2,
+    }
+}
+
+fn pair(o: Operand) -> u64
+    ensures { λ r. ⌜ (r ≡ choice.pair o) × (r ≤ 1) ⌝ }
+{
+    match o {
+        Operand::R2R0 => 0,
+        _ => 1,
+    }
+}
+
+fn long(s: u64, q: Asked) -> Code
+    requires { ⌜ s ≤ 2 ⌝ }
+    ensures { λ r. ⌜ r ≡ coded (choice.long s q) ⌝ }
+{
+    let op0 = q.op0;
+    let op1 = q.op1;
+    if names::same(op0, Operand::Imm4) {
+        return Code {
+            first: 0xEB,
+            second: 16 * (8 + s + pair(op1)) + (q.number as u64),
+        };
+    }
+    Code {
+        first: 0xEB,
+        second: 16 * (s + pair(op1)) + 1,
+    }
+}
+
+// SHL and SHA: at size L a pair, by R1H or by Imm4.
+pub(crate) fn shift(h: u64, s: u64, q: Asked) -> Code
+    requires { ⌜ (h ≤ 15) × (s ≤ 2) ⌝ }
+    ensures { λ r. ⌜ r ≡ coded (choice.shift h s q) ⌝ }
+{
+    let size = q.size;
+    match size {
+        Size::L => long(s, q),
+        Size::None => binary(0x74, h, q),
+        Size::B => binary(0x74, h, q),
+        Size::W => binary(0x74, h, q),
+    }
+}

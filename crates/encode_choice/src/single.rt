@@ -1,0 +1,151 @@
+// Codes that one opcode has, or two.
+ghost use mathlib.Core.Path.{_≡_};
+ghost use Prim.Native.Nat.{_+_, _*_, _≤_};
+ghost use Rattle.record.specs.declared.Opcode.the-variants.{ADD, DIV, EXTS, INT, LDC, LDE, MOV, MOVA, PUSH, PUSHA, STC, STE};
+ghost use Rattle.encode_rules.specs.steps.Direct.{code};
+ghost use Rattle.encode_choice.specs.steps.Choose.{codeJ, codeK, chooseBy};
+ghost use Rattle.encode_choice.specs.steps.Coded.{coded};
+use crate::Asked;
+use crate::Code;
+use crate::codes;
+use crate::names;
+use crate::shapes;
+use record::Operand;
+use record::Width;
+
+pub(crate) fn fixed(a: u8, b: u64) -> Code
+    ensures { λ r. ⌜ r ≡ coded (code a b) ⌝ }
+{
+    Code {
+        first: a,
+        second: b,
+    }
+}
+
+pub(crate) fn add(q: Asked) -> Code
+    ensures { λ r. ⌜ r ≡ coded (chooseBy ADD q) ⌝ }
+{
+    let op1 = q.op1;
+    if names::same(op1, Operand::SP) {
+        shapes::only(0x7C, 0xEB, q)
+    } else {
+        shapes::binary(0x76, 4, q)
+    }
+}
+
+pub(crate) fn div(q: Asked) -> Code
+    ensures { λ r. ⌜ r ≡ coded (chooseBy DIV q) ⌝ }
+{
+    let op0 = q.op0;
+    if names::is_wide(op0) {
+        shapes::only(0x7C, 0xE1, q)
+    } else {
+        shapes::unary(0x76, 0xD, q)
+    }
+}
+
+pub(crate) fn push(q: Asked) -> Code
+    ensures { λ r. ⌜ r ≡ coded (chooseBy PUSH q) ⌝ }
+{
+    let op0 = q.op0;
+    if names::is_wide(op0) {
+        shapes::only(0x7C, 0xE2, q)
+    } else {
+        shapes::unary(0x74, 4, q)
+    }
+}
+
+pub(crate) fn exts(q: Asked) -> Code
+    ensures { λ r. ⌜ r ≡ coded (chooseBy EXTS q) ⌝ }
+{
+    let op0 = q.op0;
+    if names::same(op0, Operand::R0) {
+        return fixed(0x7C, 0xF3);
+    }
+    fixed(0x7C, 0x60 + codes::code_g(Width::B, op0))
+}
+
+pub(crate) fn int(q: Asked) -> Code
+    ensures { λ r. ⌜ r ≡ coded (chooseBy INT q) ⌝ }
+{
+    fixed(0xEB, 0xC0 + (q.number as u64))
+}
+
+// JMPI and JSRI, from 0 or 10 on.
+pub(crate) fn jump(b: u64, q: Asked) -> Code
+    requires { ⌜ b ≤ 0x10 ⌝ }
+    ensures { λ r. ⌜ r ≡ coded (code 0x7D (b + codeJ (q .op0))) ⌝ }
+{
+    let op0 = q.op0;
+    fixed(0x7D, b + codes::code_j(op0))
+}
+
+pub(crate) fn ldc(q: Asked) -> Code
+    ensures { λ r. ⌜ r ≡ coded (chooseBy LDC q) ⌝ }
+{
+    let op1 = q.op1;
+    fixed(0xEB, 16 * codes::code_k(op1))
+}
+
+// PUSHC and POPC, by the low nibble.
+pub(crate) fn control(n: u64, q: Asked) -> Code
+    requires { ⌜ n ≤ 15 ⌝ }
+    ensures { λ r. ⌜ r ≡ coded (code 0xEB (16 * codeK (q .op0) + n)) ⌝ }
+{
+    let op0 = q.op0;
+    fixed(0xEB, 16 * codes::code_k(op0) + n)
+}
+
+pub(crate) fn stc(q: Asked) -> Code
+    ensures { λ r. ⌜ r ≡ coded (chooseBy STC q) ⌝ }
+{
+    let op1 = q.op1;
+    let op0 = q.op0;
+    fixed(
+        0x7B,
+        16 * (8 + codes::code_k(op1)) + codes::code_g(Width::W, op0),
+    )
+}
+
+pub(crate) fn lde(q: Asked) -> Code
+    ensures { λ r. ⌜ r ≡ coded (chooseBy LDE q) ⌝ }
+{
+    let op0 = q.op0;
+    shapes::binary(0x74, 8 + shapes::far(op0), q)
+}
+
+pub(crate) fn ste(q: Asked) -> Code
+    ensures { λ r. ⌜ r ≡ coded (chooseBy STE q) ⌝ }
+{
+    let op1 = q.op1;
+    shapes::unary(0x74, shapes::far(op1), q)
+}
+
+pub(crate) fn mov(q: Asked) -> Code
+    ensures { λ r. ⌜ r ≡ coded (chooseBy MOV q) ⌝ }
+{
+    let op0 = q.op0;
+    if names::same(op0, Operand::Disp8_SP) {
+        shapes::binary(0x74, 0xB, q)
+    } else {
+        shapes::binary(0x74, 0xC, q)
+    }
+}
+
+pub(crate) fn mova(q: Asked) -> Code
+    ensures { λ r. ⌜ r ≡ coded (chooseBy MOVA q) ⌝ }
+{
+    let op1 = q.op1;
+    let op0 = q.op0;
+    fixed(
+        0xEB,
+        16 * codes::code_g(Width::W, op1) + codes::code_g(Width::W, op0),
+    )
+}
+
+pub(crate) fn pusha(q: Asked) -> Code
+    ensures { λ r. ⌜ r ≡ coded (chooseBy PUSHA q) ⌝ }
+{
+    let op0 = q.op0;
+    fixed(0x7D, 0x90 + codes::code_g(Width::W, op0))
+}

@@ -1,0 +1,15 @@
+pub mod Bools
+pub mod Digits
+pub mod Order
+pub mod Runs
+pub mod Condition
+pub mod Spell
+pub mod Aim
+pub mod Plain
+pub mod Optimal
+pub mod Here
+pub mod Fill
+pub mod Can
+pub mod Direct
+pub mod Consequences
+pub mod Written

@@ -1,0 +1,4 @@
+pub mod Says
+pub mod Written
+pub mod Bench
+pub mod steps

@@ -1,0 +1,4 @@
+pub mod Digits
+pub mod Search
+pub mod Can
+pub mod Direct

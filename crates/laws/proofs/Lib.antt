@@ -1,0 +1,4 @@
+pub mod Choice
+pub mod Range
+pub mod Table
+pub mod Rest

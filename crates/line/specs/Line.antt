@@ -1,0 +1,79 @@
+-- Document 01, "Bench lines": the lines of a listing, without the newline.
+use Prim.Native.Nat.{ℕ, zero, suc}
+use mathlib.Core.List.{List, [], _∷_, _++_}
+use Rattle.laws.specs.Choice.{pick}
+use Rattle.record.specs.declared.Record.{Record}
+use Rattle.record.specs.declared.Opcode.{Opcode}
+use Rattle.record.specs.declared.Size.{Size}
+use Rattle.record.specs.declared.Size.the-variants as size
+use Rattle.record.specs.declared.Width.{Width}
+use Rattle.record.specs.declared.Width.the-variants as width
+use Rattle.record.specs.declared.Operand.{Operand}
+use Rattle.record.specs.declared.Operand.the-variants.{Nothing, Imm4, Imm8, Imm16, RegList, Abs16, Abs20, Disp8, «Disp8_A0», «Disp8_A1», «Disp8_SB», «Disp8_FB», «Disp8_SP», «Disp16_A0», «Disp16_A1», «Disp16_SB», «Disp20_A0», «Disp20_A1», «Bit_R0», «Bit_R1», «Bit_R2», «Bit_R3», «Bit_A0», «Bit_A1», «Bit_Disp8_A0», «Bit_Disp8_A1», «Bit_Disp8_SB», «Bit_Disp8_FB», «Bit_Disp16_A0», «Bit_Disp16_A1», «Bit_Disp16_SB», «Bit_Abs16»}
+use Rattle.record.specs.Same.{sameName, among, key}
+use Rattle.line.specs.Characters.{spelled, hex}
+use Rattle.line.specs.Names.{opcodeName, operandName}
+
+-- the width, B, W or -
+abbrev pub widthText : Width → List ℕ
+widthText width.None = spelled "-"
+widthText width.B = spelled "B"
+widthText width.W = spelled "W"
+
+-- the opcode's name
+abbrev pub opcodeText : Opcode → List ℕ
+opcodeText o = spelled " " ++ opcodeName o
+
+-- the size, where the opcode carries one
+abbrev pub sizeText : Size → List ℕ
+sizeText size.None = []
+sizeText size.B = spelled ".B"
+sizeText size.W = spelled ".W"
+sizeText size.L = spelled ".L"
+
+-- the names whose number is a byte, two bytes, or 20 bits
+abbrev pub byteNames : List Operand
+byteNames = Imm8 ∷ Disp8 ∷ RegList ∷ «Disp8_A0» ∷ «Disp8_A1» ∷ «Disp8_SB» ∷ «Disp8_FB» ∷ «Disp8_SP» ∷ «Bit_R0» ∷ «Bit_R1» ∷ «Bit_R2» ∷ «Bit_R3» ∷ «Bit_A0» ∷ «Bit_A1» ∷ «Bit_Disp8_A0» ∷ «Bit_Disp8_A1» ∷ «Bit_Disp8_SB» ∷ «Bit_Disp8_FB» ∷ []
+
+abbrev pub wordNames : List Operand
+wordNames = Imm16 ∷ Abs16 ∷ «Disp16_A0» ∷ «Disp16_A1» ∷ «Disp16_SB» ∷ «Bit_Abs16» ∷ «Bit_Disp16_A0» ∷ «Bit_Disp16_A1» ∷ «Bit_Disp16_SB» ∷ []
+
+abbrev pub twentyNames : List Operand
+twentyNames = Abs20 ∷ «Disp20_A0» ∷ «Disp20_A1» ∷ []
+
+-- how many digits are shown of a name's number: one of Imm4; no digit of a name without a number
+unfoldable pub digitsOf : Operand → ℕ
+digitsOf a = pick (sameName a Imm4) 1 (pick (among byteNames a) 2 (pick (among wordNames a) 4 (pick (among twentyNames a) 5 0)))
+
+abbrev pub equals : ℕ → ℕ → List ℕ
+equals zero v = []
+equals (suc n) v = spelled "=" ++ hex (suc n) v
+
+-- the number of a name
+abbrev pub numberText : Operand → ℕ → List ℕ
+numberText a v = equals (digitsOf a) v
+
+-- a name that is shown; Nothing is not
+unfoldable pub shown : Operand → List ℕ
+shown a = pick (sameName a Nothing) [] (spelled " " ++ operandName a)
+
+abbrev pub operandText : Operand → ℕ → List ℕ
+operandText a v = shown a ++ numberText a v
+
+-- from the width on; whose number is whose is sameness's rule
+unfoldable pub fromWidth : Record → List ℕ
+fromWidth r =
+    widthText (r .width) ++ (opcodeText (r .opcode) ++ (sizeText (r .size)
+    ++ (operandText (r .op0) (key r .number0) ++ (operandText (r .op1) (key r .number1) ++ operandText (r .op2) (key r .number2)))))
+
+-- the place in four digits, the length in one (of a larger place or length its low digits), and the rest
+unfoldable pub lineOf : ℕ → Record → List ℕ
+lineOf place r = hex 4 place ++ (spelled " " ++ (hex 1 (r .length) ++ (spelled " " ++ fromWidth r)))
+
+-- the end of an image
+abbrev pub endText : ℕ → List ℕ
+endText place = spelled "END " ++ hex 4 place
+
+-- a refused place: the refusal and the bytes taken, a digit each
+abbrev pub refusedText : ℕ → ℕ → ℕ → List ℕ
+refusedText place refusal taken = hex 4 place ++ (spelled " REFUSED " ++ (hex 1 refusal ++ (spelled " TAKEN " ++ hex 1 taken)))

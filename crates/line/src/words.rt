@@ -1,0 +1,186 @@
+// A record's line as packed words.
+ghost use mathlib.Core.Path.{_≡_};
+ghost use mathlib.Core.List.{_∷_, map};
+ghost use Prim.Native.Nat.{_<_, _≤_};
+ghost use Rattle.laws.specs.Choice.{pick};
+ghost use Rattle.line.specs.Characters.{digit, hex};
+ghost use Rattle.line.specs.Line.{widthText, sizeText, equals};
+ghost use Rattle.line.specs.steps.Packed.{pack, isShort, fieldNumber, placeText, lengthText, parts, endParts, refusedParts};
+use crate::names;
+use crate::names::Field;
+use crate::names::Shown;
+use record::Record;
+use record::Size;
+use record::Width;
+use record::numbers;
+
+// The number of the name Disp8_SP.
+const DISP8_SP: u32 = 37;
+
+fn width_word(x: Width) -> u64
+    ensures { λ r. ⌜ r ≡ pack (widthText x) ⌝ }
+{
+    match x {
+        Width::None => 0x2D,
+        Width::B => 0x42,
+        Width::W => 0x57,
+    }
+}
+
+fn size_word(x: Size) -> u64
+    ensures { λ r. ⌜ r ≡ pack (sizeText x) ⌝ }
+{
+    match x {
+        Size::None => 0,
+        Size::B => 0x422E,
+        Size::W => 0x572E,
+        Size::L => 0x4C2E,
+    }
+}
+
+fn digit_of(d: u64) -> u64
+    requires { ⌜ d < 16 ⌝ }
+    ensures { λ r. ⌜ r ≡ digit d ⌝ }
+{
+    if d < 10 {
+        return 48 + d;
+    }
+    55 + d
+}
+
+// The low digits of a number, the highest in the lowest byte.
+fn digits(n: u8, v: u64) -> u64
+    requires { ⌜ n ≤ 5 ⌝ }
+    ensures { λ r. ⌜ (r ≡ pack (hex n v)) × (r < 0x10000000000) ⌝ }
+{
+    let mut word: u64 = 0;
+    let mut rest = v;
+    let mut k: u8 = 0;
+    while k < n {
+        word = digit_of(rest % 16) + 0x100 * word;
+        rest = rest / 16;
+        k += 1;
+    }
+    word
+}
+
+// `=` and the digits.
+fn number_word(n: u8, v: u64) -> u64
+    requires { ⌜ n ≤ 5 ⌝ }
+    ensures { λ r. ⌜ r ≡ pack (equals n v) ⌝ }
+{
+    if n == 0 {
+        return 0;
+    }
+    0x3D + 0x100 * digits(n, v)
+}
+
+fn is_short(f: Field) -> bool
+    ensures { λ r. ⌜ r ≡ isShort f ⌝ }
+{
+    match f {
+        Field::Nowhere => false,
+        Field::Wide => false,
+        Field::Short => true,
+    }
+}
+
+fn chosen(f: Field, wide: u64, short: u64) -> u64
+    ensures { λ r. ⌜ r ≡ fieldNumber f wide short ⌝ }
+{
+    match f {
+        Field::Nowhere => 0,
+        Field::Wide => wide,
+        Field::Short => short,
+    }
+}
+
+// Which of the two displacements is an operand's: `first` where both operands have one and `dispabs` is the other's.
+fn own(dispabs: u16, first: u16, both: bool, others: bool) -> u64
+    ensures { λ r. ⌜ r ≡ pick both (pick others first dispabs) dispabs ⌝ }
+{
+    if both {
+        if others {
+            return first as u64;
+        }
+        return dispabs as u64;
+    }
+    dispabs as u64
+}
+
+// The number that is shown behind a name.
+fn shown_number(x: Shown, wide: u64, short: u64) -> u64
+    requires { ⌜ x .2 ≤ 5 ⌝ }
+    ensures { λ r. ⌜ r ≡ pack (equals (x .2) (fieldNumber (x .3) wide short)) ⌝ }
+{
+    let field = x.3;
+    number_word(x.2, chosen(field, wide, short))
+}
+
+// The words of a line, behind two that are given.
+pub fn words_of(first: u64, second: u64, r: Record) -> [u64; 14]
+    ensures { λ w. ⌜ w ≡ first ∷ second ∷ map pack (parts r) ⌝ }
+{
+    let op0 = r.op0;
+    let op1 = r.op1;
+    let op2 = r.op2;
+    let a = names::operand_shown(op0);
+    let b = names::operand_shown(op1);
+    let c = names::operand_shown(op2);
+    let wide = r.imm_wide as u64;
+    let field0 = a.3;
+    let field1 = b.3;
+    let on_stack = numbers::operand_number(op0) == DISP8_SP;
+    let short0 = own(r.dispabs, r.first, is_short(field1), !on_stack);
+    let short1 = own(r.dispabs, r.first, is_short(field0), on_stack);
+    let width = r.width;
+    let opcode = r.opcode;
+    let size = r.size;
+    [
+        first,
+        second,
+        width_word(width),
+        names::opcode_word(opcode),
+        size_word(size),
+        a.0,
+        a.1,
+        shown_number(a, wide, short0),
+        b.0,
+        b.1,
+        shown_number(b, wide, short1),
+        c.0,
+        c.1,
+        shown_number(c, wide, r.dispabs as u64),
+    ]
+}
+
+// A place and the space behind it.
+pub fn place_word(place: usize) -> u64
+    ensures { λ r. ⌜ r ≡ pack (placeText place) ⌝ }
+{
+    digits(4, place as u64) + 0x2000000000
+}
+
+pub fn length_word(n: usize) -> u64
+    ensures { λ r. ⌜ r ≡ pack (lengthText n) ⌝ }
+{
+    digits(1, n as u64) + 0x2000
+}
+
+pub fn end_words(place: usize) -> [u64; 2]
+    ensures { λ w. ⌜ w ≡ map pack (endParts place) ⌝ }
+{
+    [0x20444E45, digits(4, place as u64)]
+}
+
+pub fn refused_words(place: usize, refusal: u8, taken: usize) -> [u64; 5]
+    ensures { λ w. ⌜ w ≡ map pack (refusedParts place refusal taken) ⌝ }
+{
+    [
+        digits(4, place as u64),
+        0x4445535546455220,
+        0x20 + 0x100 * digits(1, refusal as u64),
+        0x204E454B415420,
+        digits(1, taken as u64),
+    ]
+}

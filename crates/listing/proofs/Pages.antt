@@ -1,0 +1,38 @@
+-- A page with a line more, and pages one after the other.
+-- Assumes nothing.
+use Prim.Native.Nat.{ℕ, _+_, _-_, _≤_}
+use mathlib.Core.Path.{_≡_, refl, sym, ap, _∙_}
+use mathlib.Core.List.{List, [], _++_, append-assoc, append-nil}
+use native.Mathlib.Omega.{arith}
+use lib.ListN.{length, take, drop, length-append}
+use lib.Seq.{take-at, length-take-le}
+use borrow.Rule.Slice.PartMut.{putMid}
+use Rattle.line.specs.Left.{over}
+use Rattle.line.proofs.Over.{lent}
+use Rattle.listing.specs.declared.page.Next.{Next}
+use Rattle.listing.specs.Listing.{listing}
+use Rattle.listing.specs.Page.{toList, Paged, none, more}
+
+module _ (at : ℕ) (l xs : List ℕ) {n : ℕ} {ys : List ℕ} (h : at + length xs ≤ length l)
+    (put : (n ≡ length xs) × (ys ≡ over xs (take (length l - at) (drop at l)))) where
+  filled : take (at + n) (putMid at (length l - at) l ys) ≡ take at l ++ xs
+  filled =
+      let p = take at l ++ xs in
+      let q = drop (length xs) (drop at l) in
+      let k : length p ≡ at + n = omega (arith, put .0, length-append (take at l) xs, length-take-le at l (omega arith)) in
+      ap (take (at + n)) (lent at l xs h (put .1) ∙ sym (append-assoc (take at l) xs q)) ∙ take-at p q (at + n) k
+
+  -- the line there, and what is listed behind it
+  pub line-more : (behind : List ℕ) {here whole : List ℕ} → here ≡ xs ++ behind → take at l ++ here ≡ whole → take (at + n) (putMid at (length l - at) l ys) ++ behind ≡ whole
+  line-more behind e all = ap (λ z. z ++ behind) filled ∙ append-assoc (take at l) xs behind ∙ ap (λ z. take at l ++ z) (sym e) ∙ all
+
+  pub line-last : {here whole : List ℕ} → here ≡ xs → take at l ++ here ≡ whole → take (at + n) (putMid at (length l - at) l ys) ++ [] ≡ whole
+  line-last e all = line-more [] (e ∙ sym (append-nil xs)) all
+
+whole : {bs : List ℕ} {next : Next} {text : List ℕ} → Paged bs next text → text ≡ toList bs next
+whole none = refl
+whole (more {r = r} {out = out} filled rest) = ap (λ z. take (r .length) out ++ z) (whole rest) ∙ filled .same
+
+-- from where the listing begins, pages of any size are the listing
+pub one-after-the-other : {bs : List ℕ} {first : Next} {text : List ℕ} → toList bs first ≡ listing bs → Paged bs first text → text ≡ listing bs
+one-after-the-other begun pages = whole pages ∙ begun

@@ -1,0 +1,34 @@
+-- `m16c_decode::m16c_decode` meets its contract.
+-- Assumes nothing.
+use mathlib.Core.Path.{ap, _∙_}
+use mathlib.Core.List.{_++_}
+use native.Mathlib.Omega.{arith}
+use lib.ListN.{drop}
+use borrow.Author.Tests.{lt-ltb, le-ltb}
+use borrow.Author.Needs.{needs}
+use Rattle.m16c_decode.specs.Decoded.{decoded, numbersOf}
+use Rattle.m16c_decode.proofs.Stores.{small, short}
+use Rattle.m16c_decode.proofs.m16c_decode.Statement.{statement}
+use Rattle.m16c_decode.proofs.m16c_decode.Tie as tie
+
+returns : tie.Need-returns
+unfolding decoded
+returns c = record { returned = rw (lt-ltb _ 12 (c .if1 .taken)); kept = rw (lt-ltb _ 12 (c .if1 .taken)) }
+
+deliver-requires : tie.Need-deliver-requires
+deliver-requires c κs = let t = small (c .before .before .before .before .before .args .image .now) (c .before .before .before .before .before .args .at) (λ k. omega (arith, c .before .before .before .before .shared-slice-known .given k)) in
+    let l = short (c .before .before .before .before .before .args .image .now) (c .before .before .before .before .before .args .at) in
+    let e = c .before .decode .ensures in
+    (c .before .before .if1 .left, rw e t, rw e (omega arith))
+
+returns-2 : tie.Need-returns-2
+unfolding decoded
+returns-2 c =
+    let d = c .before .before .before .before .before in
+    let room = le-ltb _ 12 (d .before .if1 .left) in
+    let e = d .decode .ensures in
+    let start = d .before .before .before .before .args in
+    record { returned = rw room (ap (λ x. x .refusal) e); kept = rw room (c .before .before .before .deliver .ensures ∙ ap (λ x. numbersOf x ++ drop 12 (start .out .now)) e) }
+
+pub m16c-decode-spec : {M : Type 1} → statement M
+m16c-decode-spec = tie.close (tie.spec returns (λ c κs. search needs) deliver-requires (λ c. search needs) (λ c. search needs) returns-2)

@@ -1,0 +1,48 @@
+-- What m16c_decode returns and leaves in the list that it is lent.
+use Prim.Native.Nat.{ℕ}
+use mathlib.Core.Path.{_≡_}
+use mathlib.Core.Bool.{Bool, true, false}
+use mathlib.Core.List.{List, [], _∷_, _++_}
+use lib.ListN.{length, drop}
+use lib.Dec.{ltb}
+use Rattle.laws.specs.Choice.{pick}
+use Rattle.record.specs.declared.Answer.{Answer}
+use Rattle.record.specs.Numbers.{opcodeNo, sizeNo, widthNo, operandNo}
+use Rattle.rows.specs.Run.{decodeRows}
+
+abbrev pub flagNo : Bool → ℕ
+flagNo true = 1
+flagNo false = 0
+
+-- an answer as twelve numbers
+unfoldable pub numbersOf : Answer → List ℕ
+numbersOf x =
+    x .taken
+    ∷ opcodeNo (x .inst .opcode)
+    ∷ sizeNo (x .inst .size)
+    ∷ widthNo (x .inst .width)
+    ∷ operandNo (x .inst .op0)
+    ∷ operandNo (x .inst .op1)
+    ∷ operandNo (x .inst .op2)
+    ∷ x .inst .«imm_wide»
+    ∷ x .inst .dispabs
+    ∷ x .inst .first
+    ∷ x .inst .length
+    ∷ flagNo (x .inst .marked)
+    ∷ []
+
+-- the number returned, and the list as it is left
+pub record Left : Type 0 where
+  pub no : ℕ
+  pub out : List ℕ
+
+-- 6 and nothing touched where the list has fewer than twelve entries; else the twelve numbers stand over its first twelve
+unfoldable pub decoded : List ℕ → ℕ → List ℕ → Left
+decoded image at out =
+    pick (ltb (length out) 12) (record { no = 6; out = out })
+    (record { no = decodeRows (drop at image) .refusal; out = numbersOf (decodeRows (drop at image)) ++ drop 12 out })
+
+-- the promise: the number returned, and every entry of the list as it is left
+pub record Decodes (image : List ℕ) (at : ℕ) (out : List ℕ) (r : ℕ) (after : List ℕ) : Type 0 where
+  pub returned : r ≡ decoded image at out .no
+  pub kept : after ≡ decoded image at out .out

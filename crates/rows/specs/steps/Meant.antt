@@ -1,0 +1,43 @@
+-- A row put as the manual puts a code, by its names and spans, and when the two say the same.
+use Prim.Native.Nat.{ℕ}
+use mathlib.Core.Path.{_≡_}
+use lib.Dec.{T}
+use Rattle.laws.specs.Choice.{pick}
+use Rattle.record.specs.declared.Operand.{Operand}
+use Rattle.record.specs.declared.Operand.the-variants.{Nothing}
+use Rattle.record.specs.Same.{sameName, Field, nowhere, wide, short, early, fieldOf, field0, field1}
+use Rattle.manual.specs.Meaning.{Suffix, Spot, nothing, plain, behind, within, Meaning}
+use Rattle.rows.specs.Row.{Row}
+use Rattle.rows.specs.Spans.{Span, Source, code, read, spansOf}
+use Rattle.rows.specs.Agree.{inCode, recorded, sizeFits}
+
+-- an operand whose number stands at a span; imm_wide may hold a number of the code
+abbrev pub spotAt : Operand → Span → Spot
+spotAt a s = behind a (s .from) (s .count)
+
+abbrev pub spotWide : Operand → ℕ → Source → Spot
+spotWide a number code = within a (inCode a number)
+spotWide a number (read s bound) = spotAt a s
+
+unfoldable pub spot : Operand → Field → Row → Spot
+unfolding sameName spansOf
+spot a nowhere r = pick (sameName a Nothing) nothing (plain a)
+spot a wide r = spotWide a (r .number) (spansOf r .wide)
+spot a short r = spotAt a (spansOf r .short)
+spot a early r = spotAt a (spansOf r .early)
+
+abbrev pub spot0 : Row → Spot
+spot0 r = spot (r .face .op0) (field0 (r .face .op0) (r .face .op1)) r
+
+abbrev pub spot1 : Row → Spot
+spot1 r = spot (r .face .op1) (field1 (r .face .op0) (r .face .op1)) r
+
+-- a row as a meaning, beside the manual's suffix, which is judged apart
+unfoldable pub meaningOf : Row → Suffix → Meaning
+unfolding spot fieldOf
+meaningOf r s = record { mnemonic = r .face .opcode; suffix = s; op0 = spot0 r; op1 = spot1 r; length = spansOf r .length }
+
+-- row and manual say the same of a code
+pub record Agrees (a b : ℕ) (r : Row) (m : Meaning) : Type 0 where
+  pub said : meaningOf r (m .suffix) ≡ recorded m
+  pub size : T (sizeFits a b (r .face .size) (r .face .width) (m .suffix))

@@ -1,3 +1,0 @@
-pub mod Choice
-pub mod Range
-pub mod Table

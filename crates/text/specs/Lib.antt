@@ -1,5 +1,0 @@
-pub mod Characters
-pub mod Names
-pub mod Line
-pub mod Left
-pub mod Packed
