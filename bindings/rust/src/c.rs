@@ -19,15 +19,6 @@ extern "C" {
         out: *mut u32, out_length: usize,
     ) -> u32;
 
-    /// The starts of an image's instructions, from 0 to its end or the first refusal. Returns that refusal, 0 at the end, or 7 or 6, and
-    /// leaves how many starts were kept and where decoding stopped.
-    pub fn m16c_sweep(
-        image: *const u8, image_length: usize,
-        starts: *mut u16, starts_length: usize,
-        count: *mut usize,
-        place: *mut usize,
-    ) -> u32;
-
     /// Encodes the record of twelve numbers, in the order that m16c_decode fills, from a place of a buffer on. Taken, length and marked do
     /// not count. Returns 0 and leaves the number of bytes written, or 5 or 6 with 0 and the buffer as it was.
     pub fn m16c_encode(
@@ -35,6 +26,15 @@ extern "C" {
         buf: *mut u8, buf_length: usize,
         place: usize,
         bytes_written: *mut usize,
+    ) -> u32;
+
+    /// The starts of an image's instructions, from 0 to its end or the first refusal. Returns that refusal, 0 at the end, or 7 or 6, and
+    /// leaves how many starts were kept and where decoding stopped.
+    pub fn m16c_sweep(
+        image: *const u8, image_length: usize,
+        starts: *mut u16, starts_length: usize,
+        count: *mut usize,
+        place: *mut usize,
     ) -> u32;
 
     /// The listing's line of the instruction at a place of an image, without a newline, over the first bytes of a buffer. Returns 0 and leaves
@@ -55,18 +55,18 @@ pub type Decode = unsafe extern "C" fn(
     out: *mut u32, out_length: usize,
 ) -> u32;
 
-pub type Sweep = unsafe extern "C" fn(
-    image: *const u8, image_length: usize,
-    starts: *mut u16, starts_length: usize,
-    count: *mut usize,
-    place: *mut usize,
-) -> u32;
-
 pub type Encode = unsafe extern "C" fn(
     numbers: *const u32, numbers_length: usize,
     buf: *mut u8, buf_length: usize,
     place: usize,
     bytes_written: *mut usize,
+) -> u32;
+
+pub type Sweep = unsafe extern "C" fn(
+    image: *const u8, image_length: usize,
+    starts: *mut u16, starts_length: usize,
+    count: *mut usize,
+    place: *mut usize,
 ) -> u32;
 
 pub type Line = unsafe extern "C" fn(
