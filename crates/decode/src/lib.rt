@@ -14,6 +14,7 @@ use decode_74::op76;
 use decode_74::op78;
 use readers::answer;
 use record::Answer;
+use record::refusal;
 
 fn in_part(a: u8) -> bool
     ensures { λ r. ⌜ r ≡ known a ⌝ }
@@ -41,7 +42,7 @@ fn decode_group(bs: &[u8], a: u8, b: u8) -> Answer
         0x7D => op7D::decode_op7D(bs, b),
         0x7E => op7E::decode_op7E(bs, b),
         0xEB => opEB::decode_opEB(bs, b),
-        _ => answer::refuse(4, 1),
+        _ => answer::refuse(refusal::FIRST_BYTE_OUTSIDE, 1),
     }
 }
 
@@ -50,12 +51,12 @@ fn decode_bytes(bs: &[u8]) -> Answer
 {
     if bs.len() < 2 {
         if bs.len() == 0 {
-            return answer::refuse(1, 0);
+            return answer::refuse(refusal::EXHAUSTED_INPUT, 0);
         }
         if in_part(bs[0]) {
-            return answer::refuse(1, 1);
+            return answer::refuse(refusal::EXHAUSTED_INPUT, 1);
         }
-        return answer::refuse(4, 1);
+        return answer::refuse(refusal::FIRST_BYTE_OUTSIDE, 1);
     }
     decode_group(bs, bs[0], bs[1])
 }
@@ -65,7 +66,7 @@ pub fn decode(image: &[u8], at: usize) -> Answer
     ensures { λ r. ⌜ r ≡ decodeRows (drop at (now (image .entry))) ⌝ }
 {
     if image.len() < at {
-        return answer::refuse(1, 0);
+        return answer::refuse(refusal::EXHAUSTED_INPUT, 0);
     }
     decode_bytes(&image[at..])
 }

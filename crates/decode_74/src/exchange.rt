@@ -8,6 +8,7 @@ use readers::general;
 use record::Answer;
 use record::Got;
 use record::Opcode;
+use record::refusal;
 
 // XCHG: the register by the second byte's high nibble, G by its low one.
 pub fn exchange(bs: &[u8], byte: bool, b: u8) -> Answer
@@ -16,7 +17,7 @@ pub fn exchange(bs: &[u8], byte: bool, b: u8) -> Answer
     let source = general::general_name(byte, b / 16);
     let dest = general::general_name(byte, b);
     match general::general(bs, answer::BEGIN, b % 16) {
-        Got::Short => answer::refuse(1, bs.len()),
+        Got::Short => answer::refuse(refusal::EXHAUSTED_INPUT, bs.len()),
         Got::On(s) => answer::accept(
             Opcode::XCHG,
             answer::size_of(byte),

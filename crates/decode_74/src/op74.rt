@@ -13,6 +13,7 @@ use record::Opcode;
 use record::Operand;
 use record::Seen;
 use record::Size;
+use record::refusal;
 
 const OPCODES: [Opcode; 16] = [
     Opcode::STE,
@@ -137,7 +138,7 @@ pub fn decode_op74(bs: &[u8], byte: bool, b: u8) -> Answer
     let h = b / 16;
     let n = b % 16;
     if stop_74(byte, h, n) {
-        return answer::refuse(3, 2);
+        return answer::refuse(refusal::INVALID_OPERAND, 2);
     }
     let name = general::general_name(byte, b);
     let other = other_74(byte, h);
@@ -146,9 +147,9 @@ pub fn decode_op74(bs: &[u8], byte: bool, b: u8) -> Answer
     let first = first_74(h);
     let w = answer::width_of(byte);
     match general::general(bs, answer::BEGIN, n) {
-        Got::Short => answer::refuse(1, bs.len()),
+        Got::Short => answer::refuse(refusal::EXHAUSTED_INPUT, bs.len()),
         Got::On(s) => match rest_74(bs, byte, h, s) {
-            Got::Short => answer::refuse(1, bs.len()),
+            Got::Short => answer::refuse(refusal::EXHAUSTED_INPUT, bs.len()),
             Got::On(t) => {
                 if first {
                     return answer::accept(o, z, w, name, other, h == 3, t);

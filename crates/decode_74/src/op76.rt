@@ -12,6 +12,7 @@ use record::Got;
 use record::Opcode;
 use record::Operand;
 use record::Size;
+use record::refusal;
 
 const OPCODES: [Opcode; 16] = [
     Opcode::TST,
@@ -40,7 +41,7 @@ fn unary_76(bs: &[u8], byte: bool, b: u8) -> Answer
     let name = general::general_name(byte, b);
     let o = OPCODES[h as usize];
     match general::general(bs, answer::BEGIN, b % 16) {
-        Got::Short => answer::refuse(1, bs.len()),
+        Got::Short => answer::refuse(refusal::EXHAUSTED_INPUT, bs.len()),
         Got::On(s) => {
             let w = answer::width_of(byte);
             if h == 13 {
@@ -65,7 +66,7 @@ fn immediate_76(bs: &[u8], byte: bool, b: u8) -> Answer
 {
     let o = OPCODES[(b / 16) as usize];
     match numbers::immediate(bs, byte, answer::BEGIN) {
-        Got::Short => answer::refuse(1, bs.len()),
+        Got::Short => answer::refuse(refusal::EXHAUSTED_INPUT, bs.len()),
         Got::On(s) => answer::accept(
             o,
             answer::size_of(byte),
@@ -86,9 +87,9 @@ fn both_76(bs: &[u8], byte: bool, b: u8) -> Answer
     let name = general::general_name(byte, b);
     let o = OPCODES[h as usize];
     match general::general(bs, answer::BEGIN, b % 16) {
-        Got::Short => answer::refuse(1, bs.len()),
+        Got::Short => answer::refuse(refusal::EXHAUSTED_INPUT, bs.len()),
         Got::On(s) => match numbers::immediate(bs, byte, s) {
-            Got::Short => answer::refuse(1, bs.len()),
+            Got::Short => answer::refuse(refusal::EXHAUSTED_INPUT, bs.len()),
             Got::On(t) => answer::accept(
                 o,
                 answer::size_of(byte),

@@ -10,6 +10,7 @@ use record::Answer;
 use record::Got;
 use record::Opcode;
 use record::Size;
+use record::refusal;
 
 // MUL: the source is read before the destination is judged.
 pub fn decode_op78(bs: &[u8], byte: bool, b: u8) -> Answer
@@ -20,13 +21,13 @@ pub fn decode_op78(bs: &[u8], byte: bool, b: u8) -> Answer
     let source = general::general_name(byte, h);
     let dest = general::general_name(byte, b);
     match general::general(bs, answer::BEGIN, h) {
-        Got::Short => answer::refuse(1, bs.len()),
+        Got::Short => answer::refuse(refusal::EXHAUSTED_INPUT, bs.len()),
         Got::On(s) => {
             if mul::bad_mul(byte, n) {
-                return answer::refuse(3, s.taken);
+                return answer::refuse(refusal::INVALID_OPERAND, s.taken);
             }
             match general::general(bs, s, n) {
-                Got::Short => answer::refuse(1, bs.len()),
+                Got::Short => answer::refuse(refusal::EXHAUSTED_INPUT, bs.len()),
                 Got::On(t) => answer::accept(
                     Opcode::MUL,
                     Size::None,

@@ -11,6 +11,7 @@ use record::Got;
 use record::Opcode;
 use record::Size;
 use record::Width;
+use record::refusal;
 
 // LDC: G is read, then the control register judged.
 fn load_control(bs: &[u8], b: u8) -> Answer
@@ -20,10 +21,10 @@ fn load_control(bs: &[u8], b: u8) -> Answer
     let source = general::general_name(true, b);
     let dest = control::control_name(b / 16);
     match general::general(bs, answer::BEGIN, b % 16) {
-        Got::Short => answer::refuse(1, bs.len()),
+        Got::Short => answer::refuse(refusal::EXHAUSTED_INPUT, bs.len()),
         Got::On(s) => {
             if k == 0 {
-                return answer::refuse(3, s.taken);
+                return answer::refuse(refusal::INVALID_OPERAND, s.taken);
             }
             answer::accept(Opcode::LDC, Size::None, Width::B, source, dest, true, s)
         }
@@ -37,7 +38,7 @@ pub fn decode_op7A(bs: &[u8], b: u8) -> Answer
         return load_control(bs, b);
     }
     if 0x40 <= b {
-        return answer::refuse(3, 2);
+        return answer::refuse(refusal::INVALID_OPERAND, 2);
     }
     exchange::exchange(bs, true, b)
 }

@@ -11,6 +11,7 @@ use record::Got;
 use record::Opcode;
 use record::Size;
 use record::Width;
+use record::refusal;
 
 // STC: the control register is judged, then G read.
 fn store_control(bs: &[u8], b: u8) -> Answer
@@ -18,12 +19,12 @@ fn store_control(bs: &[u8], b: u8) -> Answer
 {
     let k = b / 16 % 8;
     if k == 0 {
-        return answer::refuse(3, 2);
+        return answer::refuse(refusal::INVALID_OPERAND, 2);
     }
     let source = general::general_name(false, b);
     let dest = control::control_name(b / 16);
     match general::general(bs, answer::BEGIN, b % 16) {
-        Got::Short => answer::refuse(1, bs.len()),
+        Got::Short => answer::refuse(refusal::EXHAUSTED_INPUT, bs.len()),
         Got::On(s) => answer::accept(Opcode::STC, Size::None, Width::W, source, dest, false, s),
     }
 }
@@ -35,7 +36,7 @@ pub fn decode_op7B(bs: &[u8], b: u8) -> Answer
         return store_control(bs, b);
     }
     if 0x40 <= b {
-        return answer::refuse(3, 2);
+        return answer::refuse(refusal::INVALID_OPERAND, 2);
     }
     exchange::exchange(bs, false, b)
 }

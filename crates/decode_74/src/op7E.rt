@@ -15,6 +15,7 @@ use record::Operand;
 use record::Seen;
 use record::Size;
 use record::Width;
+use record::refusal;
 
 // At 2 stands BMcnd, whose condition byte names it.
 const OPCODES: [Opcode; 14] = [
@@ -60,7 +61,7 @@ fn conditional(bs: &[u8], name: Operand, s: Seen) -> Answer
 {
     let at = s.taken;
     if bs.len() <= at {
-        return answer::refuse(1, bs.len());
+        return answer::refuse(refusal::EXHAUSTED_INPUT, bs.len());
     }
     let c = bs[at];
     let o = CONDITIONS[(c % 16) as usize];
@@ -74,12 +75,12 @@ fn conditional(bs: &[u8], name: Operand, s: Seen) -> Answer
         return answer::accept(o, Size::None, Width::None, name, Operand::Nothing, false, t);
     }
     if c < 0xF8 {
-        return answer::refuse(2, at + 1);
+        return answer::refuse(refusal::INVALID_OPCODE, at + 1);
     }
     if c < 0xFF {
         return answer::accept(o, Size::None, Width::None, name, Operand::Nothing, false, t);
     }
-    answer::refuse(2, at + 1)
+    answer::refuse(refusal::INVALID_OPCODE, at + 1)
 }
 
 pub fn decode_op7E(bs: &[u8], b: u8) -> Answer
@@ -87,12 +88,12 @@ pub fn decode_op7E(bs: &[u8], b: u8) -> Answer
 {
     let h = b / 16;
     if 14 <= h {
-        return answer::refuse(2, 2);
+        return answer::refuse(refusal::INVALID_OPCODE, 2);
     }
     let name = bit::bit_name(b);
     let o = OPCODES[h as usize];
     match bit::bit(bs, answer::BEGIN, b % 16) {
-        Got::Short => answer::refuse(1, bs.len()),
+        Got::Short => answer::refuse(refusal::EXHAUSTED_INPUT, bs.len()),
         Got::On(s) => {
             if h == 2 {
                 return conditional(bs, name, s);

@@ -14,6 +14,7 @@ use record::Opcode;
 use record::Operand;
 use record::Size;
 use record::Width;
+use record::refusal;
 
 const MOVES: [Opcode; 4] = [Opcode::MOVLL, Opcode::MOVLH, Opcode::MOVHL, Opcode::MOVHH];
 
@@ -51,7 +52,7 @@ fn move_nibble(bs: &[u8], b: u8) -> Answer
     let o = MOVES[(h % 4) as usize];
     let m = nibble_mark(h, b % 16);
     match general::general(bs, answer::BEGIN, b % 16) {
-        Got::Short => answer::refuse(1, bs.len()),
+        Got::Short => answer::refuse(refusal::EXHAUSTED_INPUT, bs.len()),
         Got::On(s) => {
             if h < 4 {
                 return answer::accept(o, Size::None, Width::B, name, Operand::R0L, m, s);
@@ -78,11 +79,11 @@ fn extend_byte(bs: &[u8], b: u8) -> Answer
     ensures { λ r. ⌜ r ≡ runRow (exts (b % 16)) (now (bs .entry)) ⌝ }
 {
     if no_exts(b % 16) {
-        return answer::refuse(3, 2);
+        return answer::refuse(refusal::INVALID_OPERAND, 2);
     }
     let name = general::general_name(true, b);
     match general::general(bs, answer::BEGIN, b % 16) {
-        Got::Short => answer::refuse(1, bs.len()),
+        Got::Short => answer::refuse(refusal::EXHAUSTED_INPUT, bs.len()),
         Got::On(s) => answer::accept(
             Opcode::EXTS,
             Size::None,
@@ -119,11 +120,11 @@ fn extend_pair(bs: &[u8], b: u8) -> Answer
     ensures { λ r. ⌜ r ≡ runRow (extsC (b % 16)) (now (bs .entry)) ⌝ }
 {
     if long::long_refused(b % 16) {
-        return answer::refuse(3, 2);
+        return answer::refuse(refusal::INVALID_OPERAND, 2);
     }
     let name = PAIRS[(b % 16) as usize];
     match general::general(bs, answer::BEGIN, b % 16) {
-        Got::Short => answer::refuse(1, bs.len()),
+        Got::Short => answer::refuse(refusal::EXHAUSTED_INPUT, bs.len()),
         Got::On(s) => answer::accept(
             Opcode::EXTS,
             Size::None,
@@ -141,7 +142,7 @@ fn enter(bs: &[u8]) -> Answer
     ensures { λ r. ⌜ r ≡ runRow (row7CF 2) (now (bs .entry)) ⌝ }
 {
     match numbers::imm_byte(bs, answer::BEGIN) {
-        Got::Short => answer::refuse(1, bs.len()),
+        Got::Short => answer::refuse(refusal::EXHAUSTED_INPUT, bs.len()),
         Got::On(s) => answer::accept(
             Opcode::ENTER,
             Size::None,
@@ -180,7 +181,7 @@ fn row_F(bs: &[u8], b: u8) -> Answer
             false,
             answer::BEGIN,
         ),
-        _ => answer::refuse(2, 2),
+        _ => answer::refuse(refusal::INVALID_OPCODE, 2),
     }
 }
 
@@ -198,6 +199,6 @@ pub fn decode_op7C(bs: &[u8], b: u8) -> Answer
         12 => extend_pair(bs, b),
         14 => shared::row_E(bs, true, b),
         15 => row_F(bs, b),
-        _ => answer::refuse(2, 2),
+        _ => answer::refuse(refusal::INVALID_OPCODE, 2),
     }
 }

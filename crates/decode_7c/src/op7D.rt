@@ -18,6 +18,7 @@ use record::Opcode;
 use record::Operand;
 use record::Size;
 use record::Width;
+use record::refusal;
 
 fn jump_opcode(h: u8) -> Opcode
     ensures { λ r. ⌜ r ≡ opcodeJ h ⌝ }
@@ -34,12 +35,12 @@ fn indirect(bs: &[u8], b: u8) -> Answer
     ensures { λ r. ⌜ r ≡ runRow (jumpBy (b / 16) (b % 16)) (now (bs .entry)) ⌝ }
 {
     if long::long_refused(b % 16) {
-        return answer::refuse(3, 2);
+        return answer::refuse(refusal::INVALID_OPERAND, 2);
     }
     let h = b / 16;
     let name = long::long_name(b);
     match long::long(bs, answer::BEGIN, b % 16) {
-        Got::Short => answer::refuse(1, bs.len()),
+        Got::Short => answer::refuse(refusal::EXHAUSTED_INPUT, bs.len()),
         Got::On(s) => answer::accept(
             jump_opcode(h),
             Size::None,
@@ -58,11 +59,11 @@ fn push_address(bs: &[u8], b: u8) -> Answer
 {
     let n = b % 16;
     if n < 8 {
-        return answer::refuse(3, 2);
+        return answer::refuse(refusal::INVALID_OPERAND, 2);
     }
     let name = general::general_name(false, b);
     match general::general(bs, answer::BEGIN, n) {
-        Got::Short => answer::refuse(1, bs.len()),
+        Got::Short => answer::refuse(refusal::EXHAUSTED_INPUT, bs.len()),
         Got::On(s) => answer::accept(
             Opcode::PUSHA,
             Size::None,
@@ -92,7 +93,7 @@ fn load_level(b: u8) -> Answer
 {
     let n = b % 16;
     if 8 <= n {
-        return answer::refuse(3, 2);
+        return answer::refuse(refusal::INVALID_OPERAND, 2);
     }
     answer::accept(
         Opcode::LDIPL,
@@ -149,14 +150,14 @@ fn jump(bs: &[u8], b: u8) -> Answer
 {
     let n = b % 16;
     if n < 8 {
-        return answer::refuse(2, 2);
+        return answer::refuse(refusal::INVALID_OPCODE, 2);
     }
     if no_condition(n) {
-        return answer::refuse(2, 2);
+        return answer::refuse(refusal::INVALID_OPCODE, 2);
     }
     let o = JUMPS[(n % 8) as usize];
     match numbers::imm_byte(bs, answer::BEGIN) {
-        Got::Short => answer::refuse(1, bs.len()),
+        Got::Short => answer::refuse(refusal::EXHAUSTED_INPUT, bs.len()),
         Got::On(s) => answer::accept(
             o,
             Size::None,
@@ -206,7 +207,7 @@ fn conditional(b: u8) -> Answer
 {
     let n = b % 16;
     if no_condition(n) {
-        return answer::refuse(2, 2);
+        return answer::refuse(refusal::INVALID_OPCODE, 2);
     }
     let o = CONDITIONS[n as usize];
     let m = is_marked(n);
@@ -246,7 +247,7 @@ fn row_F(bs: &[u8], b: u8) -> Answer
         1 => bare(Opcode::RMPA, Size::W),
         2 => bare(Opcode::EXITD, Size::None),
         3 => bare(Opcode::WAIT, Size::None),
-        _ => answer::refuse(2, 2),
+        _ => answer::refuse(refusal::INVALID_OPCODE, 2),
     }
 }
 
@@ -267,6 +268,6 @@ pub fn decode_op7D(bs: &[u8], b: u8) -> Answer
         13 => conditional(b),
         14 => shared::row_E(bs, false, b),
         15 => row_F(bs, b),
-        _ => answer::refuse(2, 2),
+        _ => answer::refuse(refusal::INVALID_OPCODE, 2),
     }
 }

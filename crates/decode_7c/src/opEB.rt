@@ -17,6 +17,7 @@ use record::Opcode;
 use record::Operand;
 use record::Size;
 use record::Width;
+use record::refusal;
 
 // LDC Imm16: the control register is judged before the two bytes.
 fn load_control(bs: &[u8], h: u8) -> Answer
@@ -24,11 +25,11 @@ fn load_control(bs: &[u8], h: u8) -> Answer
     ensures { λ r. ⌜ r ≡ runRow (rowEBlow h 0) (now (bs .entry)) ⌝ }
 {
     if h == 0 {
-        return answer::refuse(3, 2);
+        return answer::refuse(refusal::INVALID_OPERAND, 2);
     }
     let dest = control::control_name(h);
     match numbers::imm_word(bs, answer::BEGIN) {
-        Got::Short => answer::refuse(1, bs.len()),
+        Got::Short => answer::refuse(refusal::EXHAUSTED_INPUT, bs.len()),
         Got::On(s) => answer::accept(
             Opcode::LDC,
             Size::None,
@@ -47,7 +48,7 @@ fn control_alone(o: Opcode, h: u8) -> Answer
     ensures { λ r. ⌜ ((bs : List ℕ) → r ≡ runRow (bare o width.None (nameK h) Nothing (K h [])) bs) ⌝ }
 {
     if h == 0 {
-        return answer::refuse(3, 2);
+        return answer::refuse(refusal::INVALID_OPERAND, 2);
     }
     answer::accept(
         o,
@@ -121,7 +122,7 @@ fn move_address(bs: &[u8], b: u8) -> Answer
     let source = general::general_name(false, b);
     let dest = general::general_name(false, h);
     match general::general(bs, answer::BEGIN, b % 16) {
-        Got::Short => answer::refuse(1, bs.len()),
+        Got::Short => answer::refuse(refusal::EXHAUSTED_INPUT, bs.len()),
         Got::On(s) => answer::accept(
             Opcode::MOVA,
             Size::None,
@@ -151,7 +152,7 @@ fn row_low(bs: &[u8], b: u8) -> Answer
         3 => control_alone(Opcode::POPC, h),
         4 => nothing_set(),
         5 => nothing_set(),
-        _ => answer::refuse(3, 2),
+        _ => answer::refuse(refusal::INVALID_OPERAND, 2),
     }
 }
 

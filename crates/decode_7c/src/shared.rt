@@ -13,17 +13,18 @@ use record::Got;
 use record::Opcode;
 use record::Operand;
 use record::Size;
+use record::refusal;
 
 // MULU and MUL with an immediate: the destination is judged by n, and is A0 or A1 all the same.
 pub fn mul_immediate(bs: &[u8], byte: bool, unsigned: bool, b: u8) -> Answer
     ensures { λ r. ⌜ r ≡ runRow (mulBy unsigned (widthOf byte) (b % 16)) (now (bs .entry)) ⌝ }
 {
     if mul::bad_mul(byte, b % 16) {
-        return answer::refuse(3, 2);
+        return answer::refuse(refusal::INVALID_OPERAND, 2);
     }
     let name = numbers::immediate_name(byte);
     match numbers::immediate(bs, byte, answer::BEGIN) {
-        Got::Short => answer::refuse(1, bs.len()),
+        Got::Short => answer::refuse(refusal::EXHAUSTED_INPUT, bs.len()),
         Got::On(s) => {
             let w = answer::width_of(byte);
             if unsigned {
@@ -117,7 +118,7 @@ pub fn row_E(bs: &[u8], byte: bool, b: u8) -> Answer
     if is_immediate(n) {
         let name = numbers::immediate_name(byte);
         match numbers::immediate(bs, byte, answer::BEGIN) {
-            Got::Short => answer::refuse(1, bs.len()),
+            Got::Short => answer::refuse(refusal::EXHAUSTED_INPUT, bs.len()),
             Got::On(s) => answer::accept(o, z, w, name, to, false, s),
         }
     } else {
@@ -130,9 +131,9 @@ pub fn load_context(bs: &[u8], byte: bool, o: Opcode) -> Answer
     ensures { λ r. ⌜ r ≡ runRow (context o (widthOf byte)) (now (bs .entry)) ⌝ }
 {
     match numbers::disp_word(bs, answer::BEGIN) {
-        Got::Short => answer::refuse(1, bs.len()),
+        Got::Short => answer::refuse(refusal::EXHAUSTED_INPUT, bs.len()),
         Got::On(s) => match numbers::long20(bs, s) {
-            Got::Short => answer::refuse(1, bs.len()),
+            Got::Short => answer::refuse(refusal::EXHAUSTED_INPUT, bs.len()),
             Got::On(t) => answer::accept(
                 o,
                 Size::None,

@@ -20,6 +20,7 @@ use encode_choice::asks;
 use encode_choice::names;
 use record::Operand;
 use record::Record;
+use record::refusal;
 
 // A code, and the numbers that stand behind it, each in so many bytes.
 pub struct Plan {
@@ -95,7 +96,7 @@ pub fn encode(r: Record, buf: &mut [u8], place: usize) -> Encoded
         }
     }
     Encoded {
-        refusal: 5,
+        refusal: refusal::NO_STRING,
         length: 0,
     }
 }

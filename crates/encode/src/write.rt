@@ -8,6 +8,7 @@ ghost use Rattle.encode_rules.specs.Written.{outcome, written};
 ghost use Rattle.encode.specs.steps.Plan.{planned, put};
 use crate::Encoded;
 use crate::Plan;
+use record::refusal;
 
 // n bytes of a number, low first, from a place on.
 fn write_number(out: &mut [u8], at: usize, n: u8, v: u32)
@@ -48,19 +49,19 @@ pub(crate) fn write_at(buf: &mut [u8], place: usize, p: Plan) -> Encoded
     let n = 2 + (p.count as usize) + (p.rest_count as usize);
     if buf.len() < place {
         return Encoded {
-            refusal: 6,
+            refusal: refusal::TOO_LITTLE_ROOM,
             length: 0,
         };
     }
     if buf.len() - place < n {
         return Encoded {
-            refusal: 6,
+            refusal: refusal::TOO_LITTLE_ROOM,
             length: 0,
         };
     }
     write_plan(&mut buf[place..], p);
     Encoded {
-        refusal: 0,
+        refusal: refusal::ACCEPTED,
         length: n,
     }
 }

@@ -5,6 +5,7 @@ ghost use lib.ListN.{length};
 ghost use Rattle.line.specs.Left.{over, Writes};
 ghost use Rattle.line.specs.steps.Packed.{chars, text};
 use crate::Written;
+use record::refusal;
 
 // How many characters a word holds.
 fn count(word: u64) -> usize
@@ -69,13 +70,13 @@ pub fn deliver(words: &[u64], out: &mut [u8]) -> Written
     let n = count_all(words);
     if out.len() < n {
         return Written {
-            refusal: 6,
+            refusal: refusal::TOO_LITTLE_ROOM,
             length: 0,
         };
     }
     write_all(words, out);
     Written {
-        refusal: 0,
+        refusal: refusal::ACCEPTED,
         length: n,
     }
 }

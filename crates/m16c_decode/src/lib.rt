@@ -6,6 +6,7 @@ ghost use lib.ListN.{length, drop};
 ghost use Rattle.m16c_decode.specs.Decoded.{flagNo, numbersOf, Decodes};
 use record::Answer;
 use record::numbers;
+use record::refusal;
 
 fn flag_number(x: bool) -> u32
     ensures { λ r. ⌜ r ≡ flagNo x ⌝ }
@@ -46,7 +47,7 @@ pub extern "C" fn m16c_decode(image: &[u8], at: usize, out: &mut [u32]) -> u32
     ensures { λ r. ⌜ Decodes (now (image .entry)) at (now (out .entry)) r (now (out .exit)) ⌝ }
 {
     if out.len() < 12 {
-        return 6;
+        return refusal::TOO_LITTLE_ROOM;
     }
     let a = decode::decode(image, at);
     deliver(a, out);

@@ -9,6 +9,7 @@ use record::Record;
 use record::Seen;
 use record::Size;
 use record::Width;
+use record::refusal;
 
 // An accepted answer: the record, whose length is the bytes taken.
 pub fn accept(
@@ -38,7 +39,7 @@ pub fn accept(
     Answer {
         inst: r,
         taken: s.taken,
-        refusal: 0,
+        refusal: refusal::ACCEPTED,
     }
 }
 

@@ -1,4 +1,5 @@
 ghost use Rattle.sweep.specs.Sweep.{Sweeps};
+use record::refusal;
 
 // How many starts were kept, where decoding stopped, and the refusal there: 0 at the image's end.
 pub struct Swept {
@@ -19,14 +20,14 @@ pub fn sweep(image: &[u8], starts: &mut [u16]) -> Swept
 {
     if 4096 < image.len() {
         return Swept {
-            refusal: 7,
+            refusal: refusal::IMAGE_TOO_LONG,
             count: 0,
             place: 0,
         };
     }
     if starts.len() < image.len() {
         return Swept {
-            refusal: 6,
+            refusal: refusal::TOO_LITTLE_ROOM,
             count: 0,
             place: 0,
         };
@@ -36,7 +37,7 @@ pub fn sweep(image: &[u8], starts: &mut [u16]) -> Swept
     let stopped = loop {
         if image.len() <= place {
             break Stopped {
-                refusal: 0,
+                refusal: refusal::ACCEPTED,
                 place: place,
             };
         }

@@ -1,0 +1,16 @@
+// What a function returns, by name; the header has the same names.
+pub const ACCEPTED: u8 = 0;
+
+pub const EXHAUSTED_INPUT: u8 = 1; // decoding: the bytes end inside the instruction
+
+pub const INVALID_OPCODE: u8 = 2; // decoding: no instruction has this code
+
+pub const INVALID_OPERAND: u8 = 3; // decoding: the instruction does not take this operand
+
+pub const FIRST_BYTE_OUTSIDE: u8 = 4; // decoding: not one of the twelve first bytes that are decoded here
+
+pub const NO_STRING: u8 = 5; // encoding: no bytes decode to this instruction, but for those of marked rows
+
+pub const TOO_LITTLE_ROOM: u8 = 6; // what is to be written does not fit into what was passed in
+
+pub const IMAGE_TOO_LONG: u8 = 7; // sweeping: the image is longer than 4,096 bytes
