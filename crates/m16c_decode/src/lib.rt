@@ -47,7 +47,7 @@ pub extern "C" fn m16c_decode(image: &[u8], at: usize, out: &mut [u32]) -> u32
     ensures { λ r. ⌜ Decodes (now (image .entry)) at (now (out .entry)) r (now (out .exit)) ⌝ }
 {
     if out.len() < 12 {
-        return refusal::TOO_LITTLE_ROOM;
+        return refusal::TOO_LITTLE_ROOM as u32;
     }
     let a = decode::decode(image, at);
     deliver(a, out);

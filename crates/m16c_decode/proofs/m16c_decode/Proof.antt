@@ -31,4 +31,4 @@ returns-2 c =
     record { returned = rw room (ap (λ x. x .refusal) e); kept = rw room (c .before .before .before .deliver .ensures ∙ ap (λ x. numbersOf x ++ drop 12 (start .out .now)) e) }
 
 pub m16c-decode-spec : {M : Type 1} → statement M
-m16c-decode-spec = tie.close (tie.spec returns (λ c κs. search needs) deliver-requires (λ c. search needs) (λ c. search needs) returns-2)
+m16c-decode-spec = tie.close (tie.spec (λ c. search needs) returns (λ c κs. search needs) deliver-requires (λ c. search needs) (λ c. search needs) returns-2)
