@@ -1,0 +1,171 @@
+"""What is compared, and with what."""
+import re
+import subprocess
+
+from model import LONGEST_IMAGE, Model, Record
+from page import STOP, Differs, plain
+
+RECORD = "crates/record/src/lib.rt"
+HEADER = "include/m16c.h"
+COUNTS = "crates/rows/proofs/Counts.antt"
+ANSWERS = "crates/replay/stdin"
+
+
+def read(path):
+    with open(path, encoding="utf-8") as f:
+        return f.read()
+
+
+def same(where, said, found):
+    if said != found:
+        raise Differs(f"{where}: docs/FORMAT.md has {said}, and here is {found}")
+
+
+class Names:
+    """The record's names by their numbers."""
+
+    def __init__(self):
+        text = re.sub(r"//[^\n]*", "", read(RECORD))
+        enums = {name: re.findall(r"\w+", body) for name, body in re.findall(r"pub enum (\w+) \{([^}]*)\}", text)}
+        self.opcodes, self.operands = enums["Opcode"], enums["Operand"]
+        self.sizes = [s.replace("None", "") for s in enums["Size"]]
+        self.widths = [w.replace("None", "-") for w in enums["Width"]]
+
+    def record(self, o, s, w, operands, imm_wide, dispabs, first):
+        return Record(self.opcodes[o], self.sizes[s], self.widths[w], tuple(self.operands[k] for k in operands), imm_wide, dispabs, first)
+
+
+def check(page):
+    model, names = Model(page), Names()
+    check_names(page, names)
+    check_header(page)
+    check_counts(page)
+    check_marks(page)
+    check_answers(page, model, names)
+    check_listings(model)
+    check_examples(page, model)
+
+
+def check_names(page, names):
+    """The page's names are the record's, and those without a row are listed."""
+    codes = page.codes.values()
+    opcodes = {c.opcode for c in codes if c.opcode} | set(page.conditions.values())
+    operands = {name for c in codes for name in c.operands}
+    for kind, said, known in (("opcode", opcodes, names.opcodes), ("operand", operands | set(page.fields) | set(page.bases), names.operands)):
+        for name in sorted(said - set(known)):
+            raise Differs(f"{page.path}: no {kind} of {RECORD} is called {name}")
+    listed = re.search(r"have a number in the header and no row: ([^.]*)\.", page.text)
+    unused = [n for n in names.opcodes if n not in opcodes], [n for n in names.operands if n not in operands]
+    same(f"{RECORD}, names without a row", listed and listed[1], "; ".join(", ".join(part) for part in unused))
+
+
+def check_header(page):
+    enums = {name: dict(re.findall(r"(M16C_\w+) = (\d+)", body)) for name, body in re.findall(r"enum (\w+) \{(.*?)\};", read(HEADER), re.S)}
+    refusals = {line["name"]: line["no."] for line in page.table("Refusals")}
+    same(f"{HEADER}, enum m16c_refusal", refusals, enums["m16c_refusal"])
+    numbers = {"M16C_" + line["number"]: line["index"] for line in page.table("The record")}
+    same(f"{HEADER}, enum m16c_number", dict(numbers, M16C_NUMBERS=str(len(numbers))), enums["m16c_number"])
+    for limit, form in (("IMAGE", r"more than ([\d,]+) bytes"), ("INSTRUCTION", r"An instruction has 2 to (\d) bytes"),
+                        ("LINE", r"No line has more than (\d+) characters")):
+        for said in re.findall(form, page.text) or [""]:
+            same(f"{HEADER}, M16C_LONGEST_{limit}", said.replace(",", ""), enums["m16c_length"]["M16C_LONGEST_" + limit])
+    same(f"{HEADER}, M16C_LONGEST_IMAGE", str(LONGEST_IMAGE), enums["m16c_length"]["M16C_LONGEST_IMAGE"])
+
+
+def check_counts(page):
+    """The counts in the page's words, those that are proved, and those of the page's rows."""
+    said = re.search(r"Of the ([\d,]+) codes, ([\d,]+) are accepted, (\d+) of these marked; (\d+) are always refused with 2 and (\d+) with 3, (\d+) of", page.text)
+    said = [plain(n) for n in said.groups()] if said else None
+    ends = {end: [c for c in page.codes.values() if dict(c.steps).get(STOP, 0) == end] for end in (0, 2, 3)}
+    late = [c for c in ends[3] if c.steps[0][0] != STOP]
+    rows = [len(c) for c in (page.codes, ends[0], [c for c in ends[0] if c.marked], ends[2], ends[3], late)]
+    same("the rows of docs/FORMAT.md, counted", said, rows)
+    same(COUNTS, said[1:], [int(n) for n in re.findall(r"≡ (\d+)\)", read(COUNTS))[:5]])
+
+
+def check_marks(page):
+    """Classes 3 and 4 of scripts/codes-svg are marked, 5 and 6 refused."""
+    classes = subprocess.run(["scripts/codes-svg", "--classes"], stdout=subprocess.PIPE, text=True, check=True).stdout
+    for code, number in (line.split() for line in sorted(classes.splitlines())):
+        row = page.codes[int(code[:2], 16), int(code[2:], 16)]
+        said = "refused" if STOP in dict(row.steps) else "marked" if row.marked else "unmarked"
+        same(f"{code[:2]} {code[2:]}, line {row.line} of docs/FORMAT.md", said, ["unmarked", "marked", "refused"][(int(number) - 1) // 2])
+
+
+def check_answers(page, model, names):
+    """Every line of the stored list; oracle/README.md has their forms. Every code is among them, with enough bytes."""
+    unseen = set(page.codes)
+    for number, line in enumerate(read(ANSWERS).splitlines(), 1):
+        where = f"{ANSWERS}, line {number}"
+        if line[0] == "E":
+            check_encoding(where, model, names, line)
+        elif line[0] == "S":
+            check_sweep(where, model, line)
+        else:
+            code = check_decoding(where, page, model, names, line)
+            unseen.discard(code)
+    for first, second in sorted(unseen):
+        raise Differs(f"{ANSWERS}: no answer to {first:02X} {second:02X}")
+
+
+def check_decoding(where, page, model, names, line):
+    """The code that an answer speaks of, if it has enough bytes behind it."""
+    count, text, refusal, taken, numbers, wide, dispabs, length = line.split(" ")
+    bs = bytes.fromhex(text)[:int(count)]
+    answer = model.decode(bs)
+    if tuple(bs[:2]) in page.codes:
+        where += f", {bs.hex(' ').upper()} by line {page.codes[bs[0], bs[1]].line} of docs/FORMAT.md"
+    same(f"{where}: refusal, taken", (answer.refusal, answer.taken), (int(refusal), int(taken)))
+    if answer.refusal == 0:
+        o, s, *operands = (int(numbers[i:j], 16) for i, j in ((0, 2), (2, 3), (3, 5), (5, 7), (7, 9)))
+        r = answer.record
+        found = names.record(o, s, 0, operands, 0, 0, 0)
+        same(f"{where}: opcode, size, operands", (r.opcode, r.size, *r.operands), (found.opcode, found.size, *found.operands))
+        same(f"{where}: imm_wide, dispabs, length", (r.imm_wide, r.dispabs, r.length), (int(wide, 16), int(dispabs, 16), int(length, 16)))
+    return tuple(bs[:2]) if answer.refusal != 1 else None
+
+
+def check_encoding(where, model, names, line):
+    head, wide, shorts, refusal, length, text = line.split(" ")
+    o, s, w, *operands = (int(head[i:j], 16) for i, j in ((1, 3), (3, 4), (4, 5), (5, 7), (7, 9), (9, 11)))
+    found = model.encode(names.record(o, s, w, operands, int(wide, 16), int(shorts[:4], 16), int(shorts[4:], 16)))
+    same(f"{where}: bytes encoded", found and found.hex(), bytes.fromhex(text)[:int(length)].hex() if refusal == "0" else None)
+
+
+def check_sweep(where, model, line):
+    head, count, place, refusal, bits = line.split(" ")
+    image = bytes.fromhex(head[3:])[:int(head[1:3], 16)]
+    stored = [p for p in range(16) if int(bits, 16) >> (15 - p) & 1]
+    found = model.sweep(image)
+    same(f"{where}: refusal, starts, place", found[:3], (int(refusal), stored, int(place, 16)))
+    same(f"{where}: count", len(found[1]), int(count, 16))
+
+
+def check_listings(model):
+    with open("crates/list_image/stdin", "rb") as f:
+        same_listing("crates/list_image/stdout", model.listing(f.read()))
+    with open("crates/list_images/stdin", "rb") as f:
+        text = f.read()
+    lines, at = [], 0
+    while at < len(text):
+        end = at + 2 + int.from_bytes(text[at:at + 2], "big")
+        lines += model.listing(text[at + 2:end])
+        at = end
+    same_listing("crates/list_images/stdout", lines)
+
+
+def same_listing(path, lines):
+    stored = read(path).splitlines()
+    for number, (line, found) in enumerate(zip(lines, stored), 1):
+        same(f"{path}, line {number}", line, found)
+    same(f"{path}, lines", len(lines), len(stored))
+
+
+def check_examples(page, model):
+    for line in page.table("Examples"):
+        bs = bytes.fromhex(line["bytes"].replace("(none)", ""))
+        answer = model.decode(bs)
+        encoded = "" if answer.refusal else model.encode(answer.record)
+        where = f"{page.path}, line {line.number}, by the tables"
+        same(where, line["listing"], model.listing(bs)[0])
+        same(where, line["encoded again"], "refused 5" if encoded is None else encoded and encoded.hex(" ").upper())

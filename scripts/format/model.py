@@ -1,0 +1,141 @@
+"""Decoding, encoding, sweep and listing by the page's tables."""
+from dataclasses import dataclass
+
+from page import CONDITION, DISPLACEMENT, IMMEDIATE, STOP
+
+MASKS = {0: 0, 1: 0xFF, 2: 0xFFFF, 3: 0xFFFFF}
+LONGEST_IMAGE = 4096
+
+
+@dataclass(frozen=True)
+class Record:
+    opcode: str = "NOP"
+    size: str = ""
+    width: str = "-"
+    operands: tuple = ("Nothing", "Nothing", "Nothing")
+    imm_wide: int = 0
+    dispabs: int = 0
+    first: int = 0
+    length: int = 0
+    marked: bool = False
+
+
+@dataclass(frozen=True)
+class Answer:
+    refusal: int
+    taken: int
+    record: Record = Record()
+
+
+class Model:
+    def __init__(self, page):
+        self.page = page
+        self.unmarked = [(a, b, c) for (a, b), c in sorted(page.codes.items()) if not c.marked and (STOP not in dict(c.steps))]
+
+    def decode(self, bs):
+        if not bs:
+            return Answer(1, 0)
+        if bs[0] not in self.page.widths:
+            return Answer(4, 1)
+        if len(bs) < 2:
+            return Answer(1, 1)
+        return self.run(self.page.codes[bs[0], bs[1]], bs)
+
+    def run(self, code, bs):
+        opcode, wide, dispabs, first, at = code.opcode, code.number, 0, 0, 2
+        for step, size in code.steps:
+            if step == STOP:
+                return Answer(size, at)
+            if len(bs) < at + size:
+                return Answer(1, len(bs))
+            number = int.from_bytes(bs[at:at + size], "little") & MASKS[size]
+            at += size
+            if step == DISPLACEMENT:
+                dispabs, first = number, dispabs
+            elif step == IMMEDIATE:
+                wide = number
+            elif step == CONDITION:
+                if number not in self.page.conditions:
+                    return Answer(2, at)
+                opcode = self.page.conditions[number]
+        return Answer(0, at, Record(opcode, code.size, code.width, code.operands + ("Nothing",), wide, dispabs, first, at, code.marked))
+
+    # Whose number is where
+
+    def field(self, operands, place):
+        """The field that holds an operand's number, or None."""
+        fields = [self.page.fields.get(name, (None,))[0] for name in operands]
+        if place < 2 and fields[0] == fields[1] == "dispabs":
+            return "dispabs" if place == (0 if operands[0] == "Disp8_SP" else 1) else "first"
+        return fields[place]
+
+    def numbers(self, record):
+        """The numbers of the three operands."""
+        fields = [self.field(record.operands, place) for place in range(3)]
+        return tuple(getattr(record, field) if field else 0 for field in fields)
+
+    def key(self, record):
+        """What counts: two records with one key are the same instruction."""
+        return record.opcode, record.size, record.width, self.based(record.operands), self.numbers(record)
+
+    def based(self, operands):
+        return tuple(self.page.bases.get(name, name) for name in operands)
+
+    # Encoding, by search
+
+    def encode(self, record):
+        """The bytes, or None for refusal 5."""
+        key = self.key(record)
+        opcode, size, width, bases, numbers = key
+        best = None
+        for a, b, code in self.unmarked:
+            operands = code.operands + ("Nothing",)
+            if (code.size, code.width, self.based(operands)) != (size, width, bases) or code.opcode not in (None, opcode):
+                continue
+            bs = bytes((a, b)) + self.behind(code, {self.field(operands, i): numbers[i] for i in range(2)}, opcode)
+            if self.key(self.decode(bs).record) == key and (best is None or (len(bs), bs) < (len(best), best)):
+                best = bs
+        return best
+
+    def behind(self, code, values, opcode):
+        """The bytes behind a code that give fields these values, as far as they fit. Of two displacements the earlier one ends in first."""
+        left = sum(step == DISPLACEMENT for step, size in code.steps)
+        bs = b""
+        for step, size in code.steps:
+            if step == DISPLACEMENT:
+                left -= 1
+                number = values.get("first" if left else "dispabs", 0)
+            elif step == IMMEDIATE:
+                number = values.get("imm_wide", 0)
+            else:
+                number = next((c for c, name in self.page.conditions.items() if name == opcode), 0)
+            bs += (number & MASKS[size]).to_bytes(size, "little")
+        return bs
+
+    # Sweep and listing
+
+    def sweep(self, image):
+        """Refusal, the starts, and the place where it stops; and the answer there."""
+        starts, place = [], 0
+        while place < len(image):
+            answer = self.decode(image[place:])
+            if answer.refusal:
+                return answer.refusal, starts, place, answer
+            starts.append(place)
+            place += answer.taken
+        return 0, starts, place, None
+
+    def line(self, place, r):
+        words = [f"{place:04X}", f"{r.length:X}", r.width, r.opcode + ("." + r.size if r.size else "")]
+        for name, number in zip(r.operands, self.numbers(r)):
+            shown = self.page.digits_of(name)
+            if name != "Nothing":
+                words.append(name + (f"={number % 16 ** shown:0{shown}X}" if shown else ""))
+        return " ".join(words)
+
+    def listing(self, image):
+        if len(image) > LONGEST_IMAGE:
+            return ["REFUSED 7"]
+        refusal, starts, place, answer = self.sweep(image)
+        lines = [self.line(start, self.decode(image[start:]).record) for start in starts]
+        return lines + [f"{place:04X} REFUSED {refusal} TAKEN {answer.taken}" if refusal else f"END {place:04X}"]

@@ -1,0 +1,212 @@
+"""The tables of docs/FORMAT.md, as data."""
+import re
+from dataclasses import dataclass
+
+HEX = "0123456789ABCDEF"
+DISPLACEMENT, IMMEDIATE, CONDITION, STOP = "displacement", "immediate", "condition", "stop"
+
+
+class Differs(Exception):
+    """What differs, and where."""
+
+
+def plain(number):
+    """A count as the page writes it: 4,096 is 4096."""
+    return int(number.replace(",", ""))
+
+
+def digits(text):
+    """The digits of a list such as '1-3 6 8-F'."""
+    found = []
+    for part in text.split():
+        low, _, high = part.partition("-")
+        found += range(HEX.index(low), HEX.index(high or low) + 1)
+    return found
+
+
+@dataclass
+class Line:
+    """A line of a table: its number in the file, and its cells by the table's heading."""
+
+    number: int
+    cells: dict
+
+    def __getitem__(self, heading):
+        return self.cells[heading]
+
+
+@dataclass
+class Code:
+    """What a code is decoded to: names, the number in the code, and the steps behind it. Refused ones are a STOP alone."""
+
+    line: int
+    width: str
+    opcode: str = "NOP"
+    size: str = ""
+    operands: tuple = ("Nothing", "Nothing")
+    number: int = 0
+    steps: tuple = ()
+    marked: bool = False
+
+
+class Page:
+    def __init__(self, path):
+        self.path = path
+        with open(path, encoding="utf-8") as f:
+            self.lines = f.read().splitlines()
+        self.text = " ".join(self.lines)
+        self.sections = {}
+        self.read_tables()
+        self.operand_codes = {letter: self.operand_table(letter) for letter in "GTJK"}
+        self.conditions = {int(line["byte"], 16): line["opcode"] for line in self.table("Conditions")}
+        self.widths = {int(line["first byte"], 16): line["width"].replace("none", "-") for line in self.table("An instruction")}
+        self.fields = self.field_table()
+        self.bases = {name: "base " + line["base"] for line in self.table("The same instruction") for name in line["names"].split()}
+        self.codes = {}
+        for heading in self.sections:
+            if re.fullmatch(r"(7[0-9A-E]|EB)( and 7\w| alone)?", heading):
+                for line in self.table(heading):
+                    self.at(line.number, self.read_row, [int(b, 16) for b in re.findall(r"\b[7E][0-9A-F]\b", heading)], line)
+        for first in self.widths:
+            for second in range(256):
+                if (first, second) not in self.codes:
+                    raise Differs(f"{path}: no row has {first:02X} {second:02X}")
+
+    def at(self, number, work, *arguments):
+        """Does something with a line; what it cannot make sense of is that line's fault."""
+        try:
+            return work(*arguments)
+        except (ValueError, KeyError, IndexError, AttributeError, TypeError) as e:
+            raise Differs(f"{self.path}, line {number}: not understood: {self.lines[number - 1]} ({e})")
+
+    def read_tables(self):
+        """The tables below each heading, each a list of its lines."""
+        section, headings = None, None
+        for number, text in enumerate(self.lines, 1):
+            if text.startswith("#"):
+                section = text.lstrip("# ")
+                self.sections[section] = []
+            cells = [c.strip() for c in text.split("|")[1:-1]] if text.startswith("|") else None
+            if cells is None:
+                headings = None
+            elif headings is None:
+                headings = cells
+                self.sections[section].append([])
+            elif not set("".join(cells)) <= set("-:"):
+                if len(cells) != len(headings):
+                    raise Differs(f"{self.path}, line {number}: {len(cells)} cells, and {len(headings)} headings")
+                self.sections[section][-1].append(Line(number, dict(zip(headings, cells))))
+
+    def table(self, section, place=0):
+        try:
+            return self.sections[section][place]
+        except (KeyError, IndexError):
+            raise Differs(f"{self.path}: no table below '{section}'")
+
+    def operand_table(self, letter):
+        """Of each code the names at B and at other widths, or None if it is refused; the bytes that it reads; the digits shown."""
+        section = next((s for s in self.sections if s.startswith(letter + ": ")), letter)
+        found = []
+        for line in self.table(section):
+            if line["code"] != HEX[len(found)]:
+                raise Differs(f"{self.path}, line {line.number}: code {HEX[len(found)]} comes here")
+            name = line.cells.get("name")
+            names = (name, name) if name else (line["at B"], line["at W"])
+            refused = name == "refused 3"
+            found.append((None, 0, 0, line.number) if refused else (names, int(line["bytes"]), int(line["digits"] or 0), line.number))
+        return found
+
+    def field_table(self):
+        """Of each name with a number: the field that holds it, the bytes that it reads, the digits shown."""
+        fields = {name: (line["field"], int(line["bytes"]), int(line["digits"]))
+                  for line in self.table("Which number is whose") for name in line["names"].split()}
+        for letter, codes in self.operand_codes.items():
+            for names, size, shown, number in codes:
+                for name in names or ():
+                    if fields.get(name, (None, 0, 0))[1:] != (size, shown):
+                        raise Differs(f"{self.path}, line {number}: bytes or digits of {name} are others under 'Which number is whose'")
+        return fields
+
+    def digits_of(self, name):
+        return self.fields.get(name, (None, 0, 0))[2]
+
+    # Rows
+
+    def read_row(self, firsts, line):
+        pattern = re.fullmatch(r"(h|[0-9A-F]|\[.-.\])(n|[0-9A-F]|\[.-.\])", line["second byte"])
+        highs, lows = (digits("0-F" if part in "hn" else part.strip("[]")) for part in pattern.groups())
+        for first in firsts:
+            for second in (16 * h + n for h in highs for n in lows):
+                if (first, second) in self.codes:
+                    raise Differs(f"{self.path}, line {line.number}: {first:02X} {second:02X} is also in line {self.codes[first, second].line}")
+                self.codes[first, second] = self.code(line, self.widths[first], second)
+
+    def code(self, line, width, second):
+        refused = re.fullmatch(r"refused ([23])", line["opcode"])
+        if refused:
+            return Code(line.number, width, steps=((STOP, int(refused[1])),))
+        opcode, _, size = line["opcode"].partition(".")
+        operands, number = [], 0
+        for cell in (line["operand 0"], line["operand 1"]):
+            name, _, value = cell.partition(" = ")
+            operands.append(self.operand(name, width, second))
+            number = self.number_in_code(value, second) if value else number
+        steps = [step for part in line["in order"].split("; ") if part for step in self.steps(part, width, second)]
+        if opcode == "by condition":
+            opcode = None
+        elif not re.fullmatch("[A-Z]+", opcode):
+            raise ValueError("opcode")
+        return Code(line.number, width, opcode, width if size == "size" else size, tuple(operands), number, tuple(steps),
+                    self.marked(line["mark"], second % 16))
+
+    def coded(self, text, second):
+        """The table and the code of 'G(n)', 'K(h-8)' and the like, or None."""
+        found = re.fullmatch(r"([GTJK])\(([hn])(?:-(\d))?\)", text)
+        if found is None:
+            return None
+        return self.operand_codes[found[1]][(second // 16 if found[2] == "h" else second % 16) - int(found[3] or 0)]
+
+    def operand(self, text, width, second):
+        code = self.coded(text, second)
+        if code is not None:
+            return "Nothing" if code[0] is None else code[0][width != "B"]
+        if text == "I":
+            return {"B": "Imm8", "W": "Imm16"}[width]
+        if not re.fullmatch(r"\w*", text):
+            raise ValueError("operand")
+        return text or "Nothing"
+
+    def number_in_code(self, text, second):
+        n = second % 16
+        return {"n": n, "n mod 8": n % 8, "second byte mod 64": second % 64,
+                "n, sign-extended from 3 bits to 32": n if n < 4 else 0xFFFFFFF8 + n}[text]
+
+    def steps(self, text, width, second):
+        n = second % 16
+        code = self.coded(text, second)
+        if code is not None:
+            names, size, shown, number = code
+            if names is None:
+                return [(STOP, 3)]
+            field = self.fields.get(names[0], (None,))[0]
+            return [(IMMEDIATE, size)] if field == "imm_wide" else [(DISPLACEMENT, size)] if size else []
+        refused = re.fullmatch(r"3 if n is (.*)", text)
+        if refused:
+            return [(STOP, 3)] if n in self.by_width(refused[1], width) else []
+        word, _, count = text.partition(" ")
+        return [{"I": (IMMEDIATE, {"B": 1, "W": 2}.get(width)), "L": (IMMEDIATE, 3), "condition": (CONDITION, 1),
+                 "imm": (IMMEDIATE, int(count or 0)), "disp": (DISPLACEMENT, int(count or 0))}[word]]
+
+    def by_width(self, text, width):
+        """The digits of '1 3 5', or of '1 3 5 at B, 2 3 5 at W'."""
+        found = []
+        for part in text.split(", "):
+            listed, _, where = part.partition(" at ")
+            if where in ("", width):
+                found += digits(listed)
+        return found
+
+    def marked(self, text, n):
+        if text in ("", "*"):
+            return text == "*"
+        return n in digits(re.fullmatch(r"\* if n is (.*)", text)[1])
