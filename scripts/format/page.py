@@ -58,26 +58,19 @@ class Page:
         self.sections = {}
         self.read_tables()
         self.operand_codes = {letter: self.operand_table(letter) for letter in "GTJK"}
-        self.conditions = {int(line["byte"], 16): line["opcode"] for line in self.table("Conditions")}
-        self.widths = {int(line["first byte"], 16): line["width"].replace("none", "-") for line in self.table("An instruction")}
+        self.conditions = dict(self.each("Conditions", lambda line: (int(line["byte"], 16), line["opcode"])))
+        self.widths = dict(self.each("An instruction", lambda line: (int(line["first byte"], 16), {"none": "-", "B": "B", "W": "W"}[line["width"]])))
         self.fields = self.field_table()
         self.bases = {name: "base " + line["base"] for line in self.table("The same instruction") for name in line["names"].split()}
         self.codes = {}
         for heading in self.sections:
             if re.fullmatch(r"(7[0-9A-E]|EB)( and 7\w| alone)?", heading):
-                for line in self.table(heading):
-                    self.at(line.number, self.read_row, [int(b, 16) for b in re.findall(r"\b[7E][0-9A-F]\b", heading)], line)
+                firsts = [int(b, 16) for b in re.findall(r"\b[7E][0-9A-F]\b", heading)]
+                self.each(heading, lambda line: self.read_row(firsts, line))
         for first in self.widths:
             for second in range(256):
                 if (first, second) not in self.codes:
                     raise Differs(f"{path}: no row has {first:02X} {second:02X}")
-
-    def at(self, number, work, *arguments):
-        """Does something with a line; what it cannot make sense of is that line's fault."""
-        try:
-            return work(*arguments)
-        except (ValueError, KeyError, IndexError, AttributeError, TypeError) as e:
-            raise Differs(f"{self.path}, line {number}: not understood: {self.lines[number - 1]} ({e})")
 
     def read_tables(self):
         """The tables below each heading, each a list of its lines."""
@@ -103,23 +96,36 @@ class Page:
         except (KeyError, IndexError):
             raise Differs(f"{self.path}: no table below '{section}'")
 
+    def each(self, section, work):
+        """Does something with each line of a section's table; what it cannot make sense of is that line's fault."""
+        found = []
+        for line in self.table(section):
+            try:
+                found.append(work(line))
+            except (ValueError, KeyError, IndexError, AttributeError, TypeError):
+                raise Differs(f"{self.path}, line {line.number}: not understood: {self.lines[line.number - 1]}")
+        return found
+
     def operand_table(self, letter):
         """Of each code the names at B and at other widths, or None if it is refused; the bytes that it reads; the digits shown."""
         section = next((s for s in self.sections if s.startswith(letter + ": ")), letter)
-        found = []
-        for line in self.table(section):
-            if line["code"] != HEX[len(found)]:
-                raise Differs(f"{self.path}, line {line.number}: code {HEX[len(found)]} comes here")
-            name = line.cells.get("name")
-            names = (name, name) if name else (line["at B"], line["at W"])
-            refused = name == "refused 3"
-            found.append((None, 0, 0, line.number) if refused else (names, int(line["bytes"]), int(line["digits"] or 0), line.number))
-        return found
+        if "".join(line["code"] for line in self.table(section)) != HEX[:8 if letter == "K" else 16]:
+            raise Differs(f"{self.path}: the codes of table {letter} are not all there, in order")
+        return self.each(section, self.operand_code)
+
+    def operand_code(self, line):
+        if line.cells.get("name") == "refused 3":
+            if line["bytes"] or line["digits"]:
+                raise ValueError("a refused code has no bytes")
+            return None, 0, 0, line.number
+        names = (line["name"], line["name"]) if "name" in line.cells else (line["at B"], line["at W"])
+        return names, int(line["bytes"]), int(line["digits"] or 0), line.number
 
     def field_table(self):
         """Of each name with a number: the field that holds it, the bytes that it reads, the digits shown."""
-        fields = {name: (line["field"], int(line["bytes"]), int(line["digits"]))
-                  for line in self.table("Which number is whose") for name in line["names"].split()}
+        fields = {}
+        self.each("Which number is whose", lambda line: fields.update(
+            {name: (line["field"], int(line["bytes"]), int(line["digits"])) for name in line["names"].split()}))
         for letter, codes in self.operand_codes.items():
             for names, size, shown, number in codes:
                 for name in names or ():
@@ -144,6 +150,8 @@ class Page:
     def code(self, line, width, second):
         refused = re.fullmatch(r"refused ([23])", line["opcode"])
         if refused:
+            if line["operand 0"] or line["operand 1"] or line["in order"] or line["mark"]:
+                raise ValueError("a refused code has nothing else")
             return Code(line.number, width, steps=((STOP, int(refused[1])),))
         opcode, _, size = line["opcode"].partition(".")
         operands, number = [], 0
