@@ -9,6 +9,7 @@ RECORD = "crates/record/src/lib.rt"
 HEADER = "include/m16c.h"
 COUNTS = "crates/rows/proofs/Counts.antt"
 ANSWERS = "crates/replay/stdin"
+PROVED = ["ends 0", "λ a b. both (ends 0 a b) (markedAt a b)", "ends 2", "ends 3", "λ a b. both (ends 3 a b) (readsAt a b)"]
 
 
 def read(path):
@@ -72,6 +73,13 @@ def check_header(page):
     same(f"{HEADER}, M16C_LONGEST_IMAGE", str(LONGEST_IMAGE), enums["m16c_length"]["M16C_LONGEST_IMAGE"])
 
 
+def proved(what):
+    found = re.search(re.escape(f"countCodes ({what}) ≡ ") + r"(\d+)", read(COUNTS))
+    if found is None:
+        raise Differs(f"{COUNTS}: no proof counts '{what}'")
+    return int(found[1])
+
+
 def check_counts(page):
     """The counts in the page's words, those that are proved, and those of the page's rows."""
     said = re.search(r"Of the ([\d,]+) codes, ([\d,]+) are accepted, (\d+) of these marked; (\d+) are always refused with 2 and (\d+) with 3, (\d+) of", page.text)
@@ -80,7 +88,7 @@ def check_counts(page):
     late = [c for c in ends[3] if c.steps[0][0] != STOP]
     rows = [len(c) for c in (page.codes, ends[0], [c for c in ends[0] if c.marked], ends[2], ends[3], late)]
     same("the rows of docs/FORMAT.md, counted", said, rows)
-    same(COUNTS, said[1:], [int(n) for n in re.findall(r"≡ (\d+)\)", read(COUNTS))[:5]])
+    same(COUNTS, said[1:], [proved(what) for what in PROVED])
 
 
 def check_marks(page):

@@ -3,6 +3,7 @@ import re
 from dataclasses import dataclass
 
 HEX = "0123456789ABCDEF"
+FIELDS = {"imm_wide": "imm_wide", "dispabs": "dispabs"}
 DISPLACEMENT, IMMEDIATE, CONDITION, STOP = "displacement", "immediate", "condition", "stop"
 
 
@@ -124,8 +125,9 @@ class Page:
     def field_table(self):
         """Of each name with a number: the field that holds it, the bytes that it reads, the digits shown."""
         fields = {}
-        self.each("Which number is whose", lambda line: fields.update(
-            {name: (line["field"], int(line["bytes"]), int(line["digits"])) for name in line["names"].split()}))
+        for names, *entry in self.each("Which number is whose", lambda line: (
+                line["names"].split(), FIELDS[line["field"]], int(line["bytes"]), int(line["digits"]))):
+            fields.update((name, tuple(entry)) for name in names)
         for letter, codes in self.operand_codes.items():
             for names, size, shown, number in codes:
                 for name in names or ():
