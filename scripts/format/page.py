@@ -3,7 +3,6 @@ import re
 from dataclasses import dataclass
 
 HEX = "0123456789ABCDEF"
-FIELDS = {"imm_wide": "imm_wide", "dispabs": "dispabs"}
 DISPLACEMENT, IMMEDIATE, CONDITION, STOP = "displacement", "immediate", "condition", "stop"
 
 
@@ -65,8 +64,8 @@ class Page:
         self.bases = {name: "base " + line["base"] for line in self.table("The same instruction") for name in line["names"].split()}
         self.codes = {}
         for heading in self.sections:
-            if re.fullmatch(r"(7[0-9A-E]|EB)( and 7\w| alone)?", heading):
-                firsts = [int(b, 16) for b in re.findall(r"\b[7E][0-9A-F]\b", heading)]
+            if re.fullmatch(r"[0-9A-F]{2}( and [0-9A-F]{2}| alone)?", heading):
+                firsts = [int(byte, 16) for byte in re.findall(r"\b[0-9A-F]{2}\b", heading)]
                 self.each(heading, lambda line: self.read_row(firsts, line))
         for first in self.widths:
             for second in range(256):
@@ -125,15 +124,19 @@ class Page:
     def field_table(self):
         """Of each name with a number: the field that holds it, the bytes that it reads, the digits shown."""
         fields = {}
-        for names, *entry in self.each("Which number is whose", lambda line: (
-                line["names"].split(), FIELDS[line["field"]], int(line["bytes"]), int(line["digits"]))):
-            fields.update((name, tuple(entry)) for name in names)
+        for named in self.each("Which number is whose", self.named):
+            fields.update(named)
         for letter, codes in self.operand_codes.items():
             for names, size, shown, number in codes:
                 for name in names or ():
                     if fields.get(name, (None, 0, 0))[1:] != (size, shown):
                         raise Differs(f"{self.path}, line {number}: bytes or digits of {name} are others under 'Which number is whose'")
         return fields
+
+    def named(self, line):
+        if line["field"] not in ("imm_wide", "dispabs"):
+            raise ValueError("field")
+        return {name: (line["field"], int(line["bytes"]), int(line["digits"])) for name in line["names"].split()}
 
     def digits_of(self, name):
         return self.fields.get(name, (None, 0, 0))[2]
