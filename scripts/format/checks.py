@@ -38,12 +38,12 @@ class Names:
 
 def check(page):
     model, names = Model(page), Names()
-    check_names(page, names)
-    check_header(page)
-    check_counts(page)
-    check_marks(page)
     check_answers(page, model, names)
+    check_marks(page)
     check_listings(model)
+    check_names(page, names)
+    check_counts(page)
+    check_header(page)
     check_examples(page, model)
 
 
@@ -62,10 +62,12 @@ def check_names(page, names):
 
 def check_header(page):
     enums = {name: dict(re.findall(r"(M16C_\w+) = (\d+)", body)) for name, body in re.findall(r"enum (\w+) \{(.*?)\};", read(HEADER), re.S)}
-    refusals = {line["name"]: line["no."] for line in page.table("Refusals")}
-    same(f"{HEADER}, enum m16c_refusal", refusals, enums["m16c_refusal"])
-    numbers = {"M16C_" + line["number"]: line["index"] for line in page.table("The record")}
-    same(f"{HEADER}, enum m16c_number", dict(numbers, M16C_NUMBERS=str(len(numbers))), enums["m16c_number"])
+    refusals = [(line["name"], line["no."]) for line in page.table("Refusals")]
+    numbers = [("M16C_" + line["number"], line["index"]) for line in page.table("The record")]
+    for enum, said in (("m16c_refusal", refusals), ("m16c_number", numbers + [("M16C_NUMBERS", str(len(numbers)))])):
+        for name, number in said:
+            same(f"{HEADER}, {name}", number, enums[enum].get(name))
+        same(f"{HEADER}, names of {enum}", len(said), len(enums[enum]))
     for limit, form in (("IMAGE", r"more than ([\d,]+) bytes"), ("INSTRUCTION", r"An instruction has 2 to (\d) bytes"),
                         ("LINE", r"No line has more than (\d+) characters")):
         for said in re.findall(form, page.text) or [""]:
