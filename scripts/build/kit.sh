@@ -28,6 +28,11 @@ find_kit() {
     [ -x "$tools/bin/ld.lld" ] || fail "the Rattle kit at $kit has no toolchain for $machine"
 }
 
+# Whether something is there that was built, and no source of the proofs is newer, nor the kit.
+is_new() {
+    [ -e "$1" ] && [ -z "$(find "$repo/crates" "$repo/crates.txt" "$kit/KIT-ID" -newer "$1" | head -n 1)" ]
+}
+
 # Runs a program for x86-64 with the kit's C library; on another processor the kit has an emulator.
 run_by_kit() {
     set -- "$tools/lib/ld-linux-x86-64.so.2" --library-path "$tools/lib" "$@"

@@ -53,25 +53,35 @@ crates_needed() {
 # Until it is killed; it ends by itself where the script is gone.
 show_each_second() {
     named=
+    seen=
     while sleep 1 >/dev/null 2>&1 && kill -0 $$ 2>/dev/null; do
         show_crates
     done
 }
 
-# Names each crate up to the one that is being proved, but for those that rt found proved already.
+# Names each crate up to the one that rt is at, but for those that were proved before. That one is named when it is seen for the second
+# time: until then rt may be finding out that it was.
 show_crates() {
     reported=$(reported_crates)
     count=0
     for crate in $plan; do
         count=$((count + 1))
-        case " $reported " in *" $crate=unchanged "*) continue ;; esac
-        case " $named " in *" $crate "*) ;; *)
-            named="$named $crate"
-            show "$me: proving $crate ($count of $(echo $plan | wc -w))"
+        case " $reported " in
+        *" $crate=unchanged "*) ;;
+        *" $crate=proved "*) name_crate ;;
+        *)
+            if [ "$seen" = "$crate" ]; then name_crate; fi
+            seen=$crate
+            return
             ;;
         esac
-        case " $reported " in *" $crate=proved "*) ;; *) return ;; esac
     done
+}
+
+name_crate() {
+    case " $named " in *" $crate "*) return ;; esac
+    named="$named $crate"
+    show "$me: proving $crate ($count of $(echo "$plan" | wc -l))"
 }
 
 # "CRATE=proved" or "CRATE=unchanged" of each crate that rt is done with, as it said first.
