@@ -16,11 +16,15 @@ build_library_and_keep_modules() {
 [ ! -f module.bc ] || cp module.bc '$modules/last.bc'
 exec '$tools/bin/clang' "\$@"
 SCRIPT
+    make_library make_archives_and_keep_modules
+    check_library
+}
+
+make_archives_and_keep_modules() {
     for crate in $c_crates; do
-        make_archive "$crate" "$shadow"
-        mv "$modules/last.bc" "$modules/$crate.bc"
+        RATTLE_HOME=$shadow rt staticlib "$crate" || return
+        mv "$modules/last.bc" "$modules/$crate.bc" || return
     done
-    merge_archives
 }
 
 link_all_but() {

@@ -14,6 +14,13 @@
 #include <stddef.h>
 #include <stdint.h>
 
+/* Made by scripts/interface: version */
+#define M16C_VERSION "0.1.0"
+#define M16C_VERSION_MAJOR 0
+#define M16C_VERSION_MINOR 1
+#define M16C_VERSION_PATCH 0
+/* End of what is made */
+
 #ifdef __cplusplus
 extern "C" {
 #endif
@@ -33,7 +40,7 @@ enum m16c_refusal {
     M16C_INVALID_OPERAND = 3, /* decoding: the instruction does not take this operand */
     M16C_FIRST_BYTE_OUTSIDE = 4, /* decoding: not one of the twelve first bytes that are decoded here */
     M16C_NO_STRING = 5, /* encoding: no bytes decode to this instruction, but for those of marked rows */
-    M16C_TOO_LITTLE_ROOM = 6, /* what was lent to be written is too short */
+    M16C_TOO_LITTLE_ROOM = 6, /* what was passed in for the result is too short */
     M16C_IMAGE_TOO_LONG = 7 /* sweeping: the image is longer than 4,096 bytes */
 };
 

@@ -26,7 +26,7 @@ const RECORDS_IN_A_PART: usize = 5_000;
 
 // ---- What is compared
 
-/// How much of a buffer is lent, and the place in it.
+/// How much of a buffer is passed in, and the place in it.
 #[derive(Clone, Copy)]
 struct Room {
     length: usize,
@@ -36,7 +36,7 @@ struct Room {
 // For the kinds that are not about rooms.
 const WIDE_ROOM: Room = Room { length: 12, place: 3 };
 
-// The lent bytes lie inside others, so that a byte written outside of them is seen.
+// The bytes passed in lie inside others, so that a byte written outside of them is seen.
 const AROUND: usize = 8;
 const LONGEST_ROOM: usize = 12;
 type Buffer = [u8; AROUND + LONGEST_ROOM + AROUND];
@@ -67,10 +67,10 @@ fn wanted(answer: Option<Spelling>, room: Room) -> Outcome {
 fn encoded(record: &[u32], room: Room) -> Outcome {
     const UNWRITTEN: usize = 0xDEAD_BEEF;
     let mut outcome = Outcome { refusal: 0, length: UNWRITTEN, buffer: untouched() };
-    let lent = &mut outcome.buffer[AROUND..AROUND + room.length];
+    let passed = &mut outcome.buffer[AROUND..AROUND + room.length];
     let (from, count) = (record.as_ptr(), record.len());
     outcome.refusal =
-        unsafe { c::m16c_encode(from, count, lent.as_mut_ptr(), lent.len(), room.place, &mut outcome.length) };
+        unsafe { c::m16c_encode(from, count, passed.as_mut_ptr(), passed.len(), room.place, &mut outcome.length) };
     outcome
 }
 
@@ -78,13 +78,13 @@ fn compare(tally: &mut Tally, record: &[u32], answer: Option<Spelling>, room: Ro
     let (wanted, port) = (wanted(answer, room), encoded(record, room));
     tally.count(wanted.refusal == 0, wanted == port, || {
         let Room { length, place } = room;
-        let mut text = format!("{}  place {place} of {length} bytes lent\n", fields(record));
+        let mut text = format!("{}  place {place} of {length} bytes\n", fields(record));
         for (name, outcome) in [("wanted", wanted), ("port", port)] {
             let Outcome { refusal, length, buffer } = outcome;
             let (before, rest) = buffer.split_at(AROUND);
-            let (lent, after) = rest.split_at(room.length);
-            let [before, lent, after] = [before, lent, after].map(hex);
-            writeln!(text, "  {name:6} {refusal} length {length:X} bytes {before} [{lent}] {after}").unwrap();
+            let (passed, after) = rest.split_at(room.length);
+            let [before, passed, after] = [before, passed, after].map(hex);
+            writeln!(text, "  {name:6} {refusal} length {length:X} bytes {before} [{passed}] {after}").unwrap();
         }
         text
     });
@@ -113,7 +113,7 @@ fn compare_by_brute_force(tally: &mut Tally, record: &Record) {
 }
 
 /// The record of a string that the Rust accepts to its last byte. The string itself, if unmarked, must not be better than what
-/// the brute force found: so that is held to every string compared.
+/// the brute force found: so that is checked against every string compared.
 fn compare_string(tally: &mut Tally, string: &[u8]) {
     let rust = expected(string);
     if rust.refusal != 0 || rust.fields[TAKEN] as usize != string.len() {
@@ -278,7 +278,7 @@ fn rooms(part: usize, tally: &mut Tally) {
 
 // ---- The odd records
 
-/// The hand's answer is held to the brute force's, and the port's to it.
+/// The hand's answer is compared with the brute force's, and the port's with it.
 fn odd_records(_part: usize, tally: &mut Tally) {
     for line in include_str!("odd-records.txt").lines() {
         let (record, answer) = odd_record(line).unwrap_or_else(|| panic!("not an odd record: {line}"));

@@ -26,7 +26,7 @@ struct Swept {
     starts: Vec<u16>,
 }
 
-// Stand in what is lent before each call. The start is one that no image has.
+// Stand in what is passed in before each call. The start is one that no image has.
 const NO_START: u16 = 0xDEAD;
 const UNWRITTEN: usize = 0xDEAD_BEEF;
 

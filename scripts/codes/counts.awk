@@ -1,4 +1,4 @@
-# The counts that are proved, and the drawn ones held to them.
+# The counts that are proved, and the drawn ones compared with them.
 
 part == "counts" { proofs = proofs " " $0 }
 

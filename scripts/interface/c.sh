@@ -2,6 +2,7 @@
 
 # The header, its marked parts made anew.
 header() {
+    c_version >"$out/version"
     c_names >"$out/names"
     c_functions >"$out/functions"
     awk -v out="$out" '
@@ -13,10 +14,17 @@ header() {
         }
         /^\/\* End of what is made \*\/$/ { made = 0 }
         !made
-        END { exit parts != 2 }' "$repo/include/m16c.h" || {
-        echo "include/m16c.h does not have the two parts that scripts/interface makes" >&2
+        END { exit parts != 3 }' "$repo/include/m16c.h" || {
+        echo "include/m16c.h does not have the three parts that scripts/interface makes" >&2
         exit 1
     }
+}
+
+c_version() {
+    version | awk -F. '{
+        printf "#define M16C_VERSION \"%s\"\n", $0
+        printf "#define M16C_VERSION_MAJOR %d\n#define M16C_VERSION_MINOR %d\n#define M16C_VERSION_PATCH %d\n", $1, $2, $3
+    }'
 }
 
 c_names() {

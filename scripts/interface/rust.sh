@@ -80,8 +80,13 @@ rust_lengths() {
     }'
 }
 
+# The crate's Cargo.toml with the version of the project.
+rust_manifest() {
+    sed "s/^version = .*/version = \"$(version)\"/" "$repo/bindings/rust/Cargo.toml"
+}
+
 rust_functions() {
-    echo '// The functions as C has them: a slice is a pointer and a length in elements, a lent number a pointer.'
+    echo '// The functions as C has them: a slice is a pointer and a length in elements, a number to be written a pointer.'
     echo '// Made by scripts/interface from the crates of the functions: change those, not this.'
     rust_lengths
     echo

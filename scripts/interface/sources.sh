@@ -1,5 +1,13 @@
 # Sourced by run: the sources, as lines of words.
 
+# The version, three numbers with points between them.
+version() {
+    grep -x '[0-9]*\.[0-9]*\.[0-9]*' "$repo/VERSION" || {
+        echo "the file VERSION does not have a version of three numbers" >&2
+        exit 1
+    }
+}
+
 # "NUMBER NAME" of each name of an enum of the record; the function that numbers it is proved.
 numbered() {
     awk -v enum="$1" '$1 ~ "^" enum "::" && $2 == "=>" { sub(/.*::/, "", $1); print $3 + 0, $1 }' "$repo/crates/record/src/numbers.rt"
@@ -14,7 +22,7 @@ numbered_refusals() {
 3 InvalidOperand decoding: the instruction does not take this operand
 4 FirstByteOutside decoding: not one of the twelve first bytes that are decoded here
 5 NoString encoding: no bytes decode to this instruction, but for those of marked rows
-6 TooLittleRoom what was lent to be written is too short
+6 TooLittleRoom what was passed in for the result is too short
 7 ImageTooLong sweeping: the image is longer than 4,096 bytes
 LIST
 }

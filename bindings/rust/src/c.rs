@@ -1,4 +1,4 @@
-// The functions as C has them: a slice is a pointer and a length in elements, a lent number a pointer.
+// The functions as C has them: a slice is a pointer and a length in elements, a number to be written a pointer.
 // Made by scripts/interface from the crates of the functions: change those, not this.
 
 /// The longest image that is swept, in bytes.

@@ -4,7 +4,7 @@ use crate::{Opcode, OperandSpec, Size, Width};
 /// A record as the library has it.
 pub(crate) type Numbers = [u32; index::NUMBERS];
 
-/// A decoded instruction, or one to be encoded. `==` compares every field; the same instruction can be said by several records.
+/// A decoded instruction, or one to be encoded. `==` compares every field; several records can mean the same instruction.
 #[derive(Debug, Clone, Copy, PartialEq, Eq, Hash)]
 pub struct Instruction {
     /// The opcode, with the size that it carries.

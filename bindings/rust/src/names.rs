@@ -733,7 +733,7 @@ pub enum Refusal {
     FirstByteOutside = 4,
     /// Encoding: no bytes decode to this instruction, but for those of marked rows.
     NoString = 5,
-    /// What was lent to be written is too short.
+    /// What was passed in for the result is too short.
     TooLittleRoom = 6,
     /// Sweeping: the image is longer than 4,096 bytes.
     ImageTooLong = 7,

@@ -17,8 +17,8 @@ pub struct Sweep<'a> {
     pub refused: Option<Refused>,
 }
 
-/// Decodes at 0, then behind each instruction, to the image's end or the first refusal. The starts are kept in what is lent, which needs
-/// an entry for each byte of the image. Refused are too few entries, and an image of more than 4,096 bytes.
+/// Decodes at 0, then behind each instruction, to the image's end or the first refusal. The starts are kept in the slice that is passed
+/// in, which needs an entry for each byte of the image. Refused are too few entries, and an image of more than 4,096 bytes.
 pub fn sweep<'a>(image: &'a [u8], starts: &'a mut [u16]) -> Result<Sweep<'a>, Refusal> {
     let (mut count, mut place) = (0, 0);
     let (out, room) = (starts.as_mut_ptr(), starts.len());

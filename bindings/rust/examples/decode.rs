@@ -1,0 +1,29 @@
+//! Decodes one instruction, and reads what it says.
+
+use m16c::{decode, line, Instruction, Opcode, OperandSpec};
+
+const IMAGE: [u8; 7] = [0x74, 0x0F, 0x34, 0x12, 0x89, 0x67, 0xF5];
+
+fn main() -> Result<(), Box<dyn std::error::Error>> {
+    let instruction = decode(&IMAGE, 0)?;
+    println!("{}", line(&IMAGE, 0)?);
+    println!("{} bytes, opcode {}", instruction.length, instruction.opcode.name());
+    show_operands(&instruction);
+    if instruction.opcode == Opcode::STE && instruction.operands[..2] == [OperandSpec::Abs16, OperandSpec::Abs20] {
+        println!("STE from address {:04X} to address {:05X}", instruction.dispabs, instruction.imm_wide);
+    }
+    // The image ends inside the instruction.
+    if let Err(refused) = decode(&IMAGE[..6], 0) {
+        println!("{:?} at {}, after {} bytes", refused.refusal, refused.place, refused.taken);
+    }
+    Ok(())
+}
+
+fn show_operands(instruction: &Instruction) {
+    for (k, operand) in (0..3).filter_map(|k| Some((k, instruction.operand(k)?))) {
+        match operand.number {
+            Some(number) => println!("operand {k}: {} with {number:X}", operand.spec.name()),
+            None => println!("operand {k}: {}", operand.spec.name()),
+        }
+    }
+}
