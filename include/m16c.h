@@ -36,7 +36,7 @@ enum m16c_length {
 enum m16c_refusal {
     M16C_ACCEPTED = 0, /* done */
     M16C_EXHAUSTED_INPUT = 1, /* decoding: the image ends inside the instruction */
-    M16C_INVALID_OPCODE = 2, /* decoding: no instruction has this code */
+    M16C_INVALID_OPCODE = 2, /* decoding: no instruction has this code or this condition byte */
     M16C_INVALID_OPERAND = 3, /* decoding: the instruction does not take this operand */
     M16C_FIRST_BYTE_OUTSIDE = 4, /* decoding: not one of the twelve first bytes that are decoded here */
     M16C_NO_STRING = 5, /* encoding: no bytes decode to this instruction, but for those of marked rows */

@@ -13,18 +13,16 @@ numbered() {
     awk -v enum="$1" '$1 ~ "^" enum "::" && $2 == "=>" { sub(/.*::/, "", $1); print $3 + 0, $1 }' "$repo/crates/record/src/numbers.rt"
 }
 
-# The same of document 01's numbers of what comes back, and what each means.
+# "NUMBER NAME MEANING" of each refusal, a constant of the record.
 numbered_refusals() {
-    cat <<'LIST'
-0 Accepted done
-1 ExhaustedInput decoding: the image ends inside the instruction
-2 InvalidOpcode decoding: no instruction has this code
-3 InvalidOperand decoding: the instruction does not take this operand
-4 FirstByteOutside decoding: not one of the twelve first bytes that are decoded here
-5 NoString encoding: no bytes decode to this instruction, but for those of marked rows
-6 TooLittleRoom what was passed in for the result is too short
-7 ImageTooLong sweeping: the image is longer than 4,096 bytes
-LIST
+    awk '$2 == "const" {
+        number = $6; sub(/;/, "", number)
+        name = ""; sub(/:/, "", $3)
+        parts = split(tolower($3), part, "_")
+        for (i = 1; i <= parts; i++) name = name toupper(substr(part[i], 1, 1)) substr(part[i], 2)
+        sub(/^.*\/\/ /, "")
+        print number, name, $0
+    }' "$repo/crates/record/src/refusal.rt"
 }
 
 # The same of lengths that callers make room by. Each stands in a definition or is proved: `whole` (sweep/specs/Sweep), `two-to-seven`

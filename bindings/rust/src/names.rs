@@ -725,7 +725,7 @@ impl OperandSpec {
 pub enum Refusal {
     /// Decoding: the image ends inside the instruction.
     ExhaustedInput = 1,
-    /// Decoding: no instruction has this code.
+    /// Decoding: no instruction has this code or this condition byte.
     InvalidOpcode = 2,
     /// Decoding: the instruction does not take this operand.
     InvalidOperand = 3,
