@@ -1,34 +1,34 @@
--- A test over all codes that passes is a law for each code.
+-- What holds of each first byte that has rows holds of each known one; a test over all codes that passes is a law for each code.
 -- Assumes nothing.
-use Prim.Native.Nat.{ℕ, _+_, _-_, _≤_, _<_}
+use Prim.Native.Nat.{ℕ, _<_}
 use mathlib.Core.Path.{_≡_, refl, sym, subst}
 use mathlib.Core.Bool.{Bool, true, false}
-use native.Mathlib.Omega.{arith}
-use lib.Dec.{T, ltb, leb}
-use borrow.Author.Tests.{ltb-false, leb-true, eqb-true}
+use mathlib.Core.List.{List, [], _∷_}
+use lib.Dec.{T, eqb}
+use borrow.Author.Tests.{eqb-true}
 use Rattle.laws.specs.Range.{upto}
 use Rattle.laws.proofs.Choice.{both-left, both-right}
 use Rattle.laws.proofs.Range.{upto-at}
-use Rattle.rows.specs.All.{everyCode}
-use Rattle.rows.specs.Rows.{known}
+use Rattle.rows.specs.All.{everyFirst, everyCode, EachFirst}
+use Rattle.rows.specs.Rows.{Group, groups, knownIn, known}
 
--- the first bytes that are known are those that are tested
-module _ (f : ℕ → ℕ → Bool) (t : T (everyCode f)) (b : ℕ) (l : b < 256) where
-  low : (a : ℕ) → 0x74 ≤ a → a ≤ 0x7E → T (f a b)
-  unfolding everyCode
-  low a g h =
-      let q : 0x74 + (a - 0x74) ≡ a = omega arith in
-      subst (λ x. T (f x b)) q (upto-at (f (0x74 + (a - 0x74))) 256 (upto-at (λ i. upto (f (0x74 + i)) 256) 11 (both-left (upto (λ i. upto (f (0x74 + i)) 256) 11) (upto (f 0xEB) 256) t) (a - 0x74) (omega arith)) b l)
-
-  high : (a : ℕ) → a ≡ 0xEB → T (f a b)
-  unfolding everyCode
-  high a e = subst (λ x. T (f x b)) (sym e) (upto-at (f 0xEB) 256 (both-right (upto (λ i. upto (f (0x74 + i)) 256) 11) (upto (f 0xEB) 256) t) b l)
-
-  pub every-code : (a : ℕ) → known a ≡ true → T (f a b)
-  unfolding known
-  every-code a e = by (ltb a 0x74) refl (leb a 0x7E) refl
+module _ (P : ℕ → Type 0) where
+  found : (gs : List Group) → EachFirst P gs → (a : ℕ) → knownIn gs a ≡ true → P a
+  found [] t a e = absurd (subst T (sym e) tt)
+  found (g ∷ gs) t a e = by (eqb a (g .byte)) refl (found gs (t .1) a)
     where
-      by : (x : Bool) → ltb a 0x74 ≡ x → (y : Bool) → leb a 0x7E ≡ y → T (f a b)
-      by true p y q = let z : false ≡ true = rw p at e in absurd (subst T (sym z) tt)
-      by false p true q = low a (ltb-false a 0x74 p) (leb-true a 0x7E q)
-      by false p false q = high a (eqb-true a 0xEB (rw (p, q) at e))
+      by : (x : Bool) → eqb a (g .byte) ≡ x → (knownIn gs a ≡ true → P a) → P a
+      by true p k = subst P (sym (eqb-true a (g .byte) p)) (t .0)
+      by false p k = k (rw p at e)
+
+  pub each-first : EachFirst P groups → (a : ℕ) → known a ≡ true → P a
+  unfolding known
+  each-first = found groups
+
+tested : (f : ℕ → Bool) (gs : List Group) → T (everyFirst f gs) → EachFirst (λ a. T (f a)) gs
+tested f [] t = tt
+tested f (g ∷ gs) t = (both-left (f (g .byte)) (everyFirst f gs) t, tested f gs (both-right (f (g .byte)) (everyFirst f gs) t))
+
+pub every-code : (f : ℕ → ℕ → Bool) → T (everyCode f) → (b : ℕ) → b < 256 → (a : ℕ) → known a ≡ true → T (f a b)
+unfolding everyCode
+every-code f t b l a e = upto-at (f a) 256 (each-first (λ a. T (upto (f a) 256)) (tested (λ a. upto (f a) 256) groups t) a e) b l

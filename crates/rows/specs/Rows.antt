@@ -359,16 +359,44 @@ rowEB h n =
     pick (ltb h 8) (rowEBlow h n)
     (pick (ltb h 12) (longShift h Imm4 n) (row INT size.None None Imm8 Nothing ((16 * h + n) % 64) []))
 
--- the twelve first bytes
-unfoldable pub known : ℕ → Bool
-known a = pick (ltb a 0x74) false (pick (leb a 0x7E) true (eqb a 0xEB))
+-- a first byte and its rows
+pub record Group : Type 0 where
+  pub byte : ℕ
+  pub rows : ℕ → ℕ → Row
 
--- the rows of a known first byte (functions are chosen, so that only the row asked for is computed; to unfold it is to unfold them all)
-unfoldable pub rowsOf : ℕ → ℕ → ℕ → Row
+abbrev group : ℕ → (ℕ → ℕ → Row) → Group
+group a r = record { byte = a; rows = r }
+
+-- the twelve first bytes (to unfold this is to unfold all rows; of the functions only that which is asked for is computed)
+unfoldable pub groups : List Group
 unfolding noPair numJ row row74 row76 row78 row7A row7B rowE row7C row7CF row7D row7DC row7DD row7DF row7E rowEB rowEBlow
-rowsOf a =
-    pick (eqb a 0xEB) rowEB
-    (getD (row74 B ∷ row74 W ∷ row76 B ∷ row76 W ∷ row78 B ∷ row78 W ∷ row7A ∷ row7B ∷ row7C ∷ row7D ∷ row7E ∷ []) (a - 0x74) (λ h n. refused InvalidOpcode))
+groups =
+    group 0x74 (row74 B) ∷ group 0x75 (row74 W)
+    ∷ group 0x76 (row76 B) ∷ group 0x77 (row76 W)
+    ∷ group 0x78 (row78 B) ∷ group 0x79 (row78 W)
+    ∷ group 0x7A row7A
+    ∷ group 0x7B row7B
+    ∷ group 0x7C row7C
+    ∷ group 0x7D row7D
+    ∷ group 0x7E row7E
+    ∷ group 0xEB rowEB
+    ∷ []
+
+abbrev pub knownIn : List Group → ℕ → Bool
+knownIn [] a = false
+knownIn (g ∷ gs) a = pick (eqb a (g .byte)) true (knownIn gs a)
+
+abbrev pub rowsIn : List Group → ℕ → ℕ → ℕ → Row
+rowsIn [] a = λ h n. refused InvalidOpcode
+rowsIn (g ∷ gs) a = pick (eqb a (g .byte)) (g .rows) (rowsIn gs a)
+
+unfoldable pub known : ℕ → Bool
+unfolding groups
+known = knownIn groups
+
+unfoldable pub rowsOf : ℕ → ℕ → ℕ → Row
+unfolding groups
+rowsOf = rowsIn groups
 
 abbrev pub document01 : Table
 document01 = record { known = known; rowAt = λ a b. rowsOf a (b / 16) (b % 16) }
