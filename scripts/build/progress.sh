@@ -11,8 +11,10 @@ run_shown() {
     : >"$log"
     show_each_second &
     shower=$!
+    trap 'kill "$shower"; exit 130' INT # what runs in the background does not hear of it otherwise
     status=0
     (cd "$repo" && "$@") >"$log" 2>&1 || status=$?
+    trap - INT
     kill "$shower" 2>/dev/null || true
     wait "$shower" 2>/dev/null || true
     if [ -t 2 ]; then printf '\r\033[K' >&2; fi
