@@ -7,6 +7,7 @@ c_crates="m16c_decode m16c_encode m16c_sweep m16c_line"
 # Sets `library`, which has each function for C; it is proved and built anew where a source is newer.
 build_library() {
     library=${M16C_LIBRARY:-$repo/target/library/libm16c.a}
+    case $library in /*) ;; *) library=$PWD/$library ;; esac
     if [ -z "${M16C_LIBRARY:-}" ] && ! is_new "$library"; then
         make_library make_archives
     fi

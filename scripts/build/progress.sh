@@ -11,11 +11,13 @@ run_shown() {
     : >"$log"
     show_each_second &
     shower=$!
+    trap 'kill "$shower"; clear_line; exit 130' INT # what runs in the background does not hear of it otherwise
     status=0
     (cd "$repo" && "$@") >"$log" 2>&1 || status=$?
+    trap - INT
     kill "$shower" 2>/dev/null || true
     wait "$shower" 2>/dev/null || true
-    if [ -t 2 ]; then printf '\r\033[K' >&2; fi
+    clear_line
     return "$status"
 }
 
@@ -95,5 +97,10 @@ reported_crates() {
 
 # On a terminal one line, which is written anew.
 show() {
-    if [ -t 2 ]; then printf '\r\033[K%s' "$1" >&2; else printf '%s\n' "$1" >&2; fi
+    clear_line
+    if [ -t 2 ]; then printf '%s' "$1" >&2; else printf '%s\n' "$1" >&2; fi
+}
+
+clear_line() {
+    if [ -t 2 ]; then printf '\r\033[K' >&2; fi
 }
