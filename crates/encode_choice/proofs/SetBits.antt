@@ -1,14 +1,12 @@
--- Sets of names as numbers: what an arm returns is its opcodes' set, and the sets' bits are size and names.
+-- Sets of names as numbers: what a lookup returns is its form's, and the sets' bits are size and names.
 -- Assumes nothing.
-use Prim.Native.Nat.{ℕ, _+_, _^_, _/_, _%_}
+use Prim.Native.Nat.{ℕ}
 use mathlib.Core.Path.{_≡_, sym, ap, ap₂, _∙_}
-use mathlib.Core.Bool.{Bool, true}
+use mathlib.Core.Bool.{Bool}
 use mathlib.Core.List.{List}
 use lib.Dec.{T, eqb}
-use types.Run.{OneOf}
-use denote.Enum.Declared.{tagOf}
 use borrow.Author.Tests.{eqb-true}
-use Rattle.laws.specs.Choice.{pick, both}
+use Rattle.laws.specs.Choice.{both}
 use Rattle.laws.specs.Table.{every}
 use Rattle.record.specs.declared.Opcode.{Opcode}
 use Rattle.record.specs.declared.Size.{Size}
@@ -18,30 +16,29 @@ use Rattle.record.specs.declared.Width.the-variants.{None, B, W}
 use Rattle.record.specs.declared.Operand.{Operand}
 use Rattle.record.specs.Numbers.{sizeNo, operandNo}
 use Rattle.record.specs.Same.{sameName, among}
-use Rattle.record.proofs.Opcode.{the-type}
 use Rattle.record.proofs.Apart.{opcodes, operands}
-use Rattle.record.proofs.Arms.{has, bit, bits-apart, every-opcode, every-operand, of-opcodes}
+use Rattle.record.proofs.Arms.{bit, bits-apart, every-opcode, every-operand}
+use Rattle.encode_choice.specs.declared.Asked.{Asked}
+use Rattle.encode_choice.specs.declared.name_sets.Form.{Form}
 use Rattle.encode_choice.specs.steps.Forms.{formOf, names, sizeFor}
+use Rattle.encode_choice.specs.steps.NameSet.{bitSet, first, second, sizeBit, hasBit, allIn}
 use Rattle.encode_rules.proofs.Bools.{so}
-use Rattle.encode_choice.specs.steps.NameSet.{bitSet, first, second}
 
-module _ (f : Opcode → ℕ) where
-  pub of-opcode : (p : Opcode) (v : ℕ) → T (eqb v (f p)) → {o : Opcode} → o ≡ p → v ≡ f o
-  of-opcode p v t e = eqb-true _ _ (so _ t) ∙ ap f (sym e)
+-- an arm of a lookup is told its name
+pub form-told : {o p : Opcode} → o ≡ p → formOf p ≡ formOf o
+form-told e = ap formOf (sym e)
 
-  pub of-arm : (v : ℕ) (ks : List ℕ) → T (every (λ i o. pick (has ks (tagOf the-type o)) (eqb v (f o)) true) 0 opcodes) → (o : Opcode) → OneOf ks (tagOf the-type o) → v ≡ f o
-  of-arm v ks t o h = eqb-true _ _ (of-opcodes (λ o. eqb v (f o)) ks t o h)
+pub sets-told : (w : Width) {f g : Form} → f ≡ g → (first g w ≡ first f w) × (second g w ≡ second f w)
+sets-told w e = (ap (λ f. first f w) (sym e), ap (λ f. second f w) (sym e))
 
--- a test of every opcode's set at every name, or at every size
-abbrev bitOf : ℕ → ℕ → Bool
-bitOf n i = eqb (n / 2 ^ i % 2) 1
-
+-- a test of every opcode's set at every name
 abbrev Names : (Opcode → ℕ) → (Opcode → List Operand) → Type 0
-Names f xs = T (every (λ i o. every (λ j x. eqb (bit (bitOf (f o) (operandNo x))) (bit (among (xs o) x))) 0 operands) 0 opcodes)
+Names f xs = T (every (λ i o. every (λ j x. eqb (bit (hasBit (f o) (operandNo x))) (bit (among (xs o) x))) 0 operands) 0 opcodes)
 
-from-names : (f : Opcode → ℕ) (xs : Opcode → List Operand) → Names f xs → (o : Opcode) (x : Operand) → bitOf (f o) (operandNo x) ≡ among (xs o) x
+from-names : (f : Opcode → ℕ) (xs : Opcode → List Operand) → Names f xs → (o : Opcode) (x : Operand) → hasBit (f o) (operandNo x) ≡ among (xs o) x
 from-names f xs t o x =
-    bits-apart _ _ (eqb-true _ _ (so _ (every-operand (λ x. eqb (bit (bitOf (f o) (operandNo x))) (bit (among (xs o) x))) (every-opcode (λ o. every (λ j x. eqb (bit (bitOf (f o) (operandNo x))) (bit (among (xs o) x))) 0 operands) t o) x)))
+    let agrees : Opcode → Operand → Bool = λ o x. eqb (bit (hasBit (f o) (operandNo x))) (bit (among (xs o) x)) in
+    bits-apart _ _ (eqb-true _ _ (so _ (every-operand (agrees o) (every-opcode (λ o. every (λ j x. agrees o x) 0 operands) t o) x)))
 
 first-names : (w : Width) → Names (λ o. first (formOf o) w) (λ o. names (formOf o) w .first)
 unfolding bitSet formOf among sameName
@@ -55,33 +52,40 @@ second-names B = tt
 second-names W = tt
 second-names None = tt
 
+-- and at every size
 sizeAgrees : Width → Size → Opcode → Bool
-sizeAgrees w s o = eqb (bit (bitOf (first (formOf o) w) (57 + sizeNo s))) (bit (eqb (sizeNo s) (sizeNo (sizeFor (formOf o) w))))
+sizeAgrees w s o = eqb (bit (hasBit (first (formOf o) w) (sizeBit s))) (bit (eqb (sizeNo s) (sizeNo (sizeFor (formOf o) w))))
 
-sizes : (w : Width) (s : Size) → T (every (λ i o. sizeAgrees w s o) 0 opcodes)
+all-sizes : (w : Width) (s : Size) → T (every (λ i o. sizeAgrees w s o) 0 opcodes)
 unfolding sizeAgrees bitSet formOf
-sizes B size.None = tt
-sizes B size.B = tt
-sizes B size.W = tt
-sizes B size.L = tt
-sizes W size.None = tt
-sizes W size.B = tt
-sizes W size.W = tt
-sizes W size.L = tt
-sizes None size.None = tt
-sizes None size.B = tt
-sizes None size.W = tt
-sizes None size.L = tt
+all-sizes B size.None = tt
+all-sizes B size.B = tt
+all-sizes B size.W = tt
+all-sizes B size.L = tt
+all-sizes W size.None = tt
+all-sizes W size.B = tt
+all-sizes W size.W = tt
+all-sizes W size.L = tt
+all-sizes None size.None = tt
+all-sizes None size.B = tt
+all-sizes None size.W = tt
+all-sizes None size.L = tt
 
-in-size : (w : Width) (o : Opcode) (s : Size) → bitOf (first (formOf o) w) (57 + sizeNo s) ≡ eqb (sizeNo s) (sizeNo (sizeFor (formOf o) w))
+in-size : (w : Width) (o : Opcode) (s : Size) → hasBit (first (formOf o) w) (sizeBit s) ≡ eqb (sizeNo s) (sizeNo (sizeFor (formOf o) w))
 unfolding sizeAgrees
-in-size w o s = bits-apart _ _ (eqb-true _ _ (so _ (every-opcode (sizeAgrees w s) (sizes w s) o)))
+in-size w o s = bits-apart _ _ (eqb-true _ _ (so _ (every-opcode (sizeAgrees w s) (all-sizes w s) o)))
 
 -- the bits of both sets are size and names
-pub in-sets : (w : Width) (o : Opcode) (s : Size) (x y : Operand) {m n : ℕ} → m ≡ first (formOf o) w → n ≡ second (formOf o) w
-    → both (eqb (m / 2 ^ (57 + sizeNo s) % 2) 1) (both (eqb (m / 2 ^ operandNo x % 2) 1) (eqb (n / 2 ^ operandNo y % 2) 1))
-    ≡ both (eqb (sizeNo s) (sizeNo (sizeFor (formOf o) w))) (both (among (names (formOf o) w .first) x) (among (names (formOf o) w .second) y))
-in-sets w o s x y e h =
-    ap₂ (λ m n. both (bitOf m (57 + sizeNo s)) (both (bitOf m (operandNo x)) (bitOf n (operandNo y)))) e h
-    ∙ ap₂ both (in-size w o s)
-    (ap₂ both (from-names (λ o. first (formOf o) w) (λ o. names (formOf o) w .first) (first-names w) o x) (from-names (λ o. second (formOf o) w) (λ o. names (formOf o) w .second) (second-names w) o y))
+module _ (o : Opcode) (q : Asked) where
+  abbrev pub sized : Bool
+  sized = eqb (sizeNo (q .size)) (sizeNo (sizeFor (formOf o) (q .width)))
+
+  abbrev pub named : Bool
+  named = both (among (names (formOf o) (q .width) .first) (q .op0)) (among (names (formOf o) (q .width) .second) (q .op1))
+
+  pub in-sets : {m n : ℕ} → (m ≡ first (formOf o) (q .width)) × (n ≡ second (formOf o) (q .width)) → allIn m n q ≡ both sized named
+  in-sets e =
+      ap₂ (λ m n. allIn m n q) (e .0) (e .1)
+      ∙ ap₂ both (in-size (q .width) o (q .size))
+      (ap₂ both (from-names (λ o. first (formOf o) (q .width)) (λ o. names (formOf o) (q .width) .first) (first-names (q .width)) o (q .op0))
+      (from-names (λ o. second (formOf o) (q .width)) (λ o. names (formOf o) (q .width) .second) (second-names (q .width)) o (q .op1)))

@@ -6,6 +6,7 @@ mod shapes; // codes that several opcodes have in common
 mod single; // codes that one opcode has
 pub mod forms; // which size and names go with an opcode
 mod sets; // names as bits
+pub mod name_sets; // the sets of each form
 
 ghost use mathlib.Core.Path.{_≡_};
 ghost use Rattle.encode_choice.specs.steps.Choose as choice;

@@ -7,13 +7,14 @@ use lib.Dec.{ltb, eqb}
 use Rattle.laws.specs.Choice.{pick, both}
 use Rattle.record.specs.declared.Record.{Record}
 use Rattle.record.specs.declared.Opcode.{Opcode}
-use Rattle.record.specs.declared.Opcode.the-variants.{NOP, ABS, ADC, ADCF, ADD, AND, BAND, BCLR, BMEQ, BMGEU, BMGT, BMGTU, BMLE, BMLEU, BMLTU, BMLT, BMNO, BMGE, BMN, BMNE, BMO, BMPZ, BNAND, BNOR, BNOT, BNTST, BNXOR, BOR, BSET, BTST, BTSTC, BTSTS, BXOR, CMP, DADC, DADD, DIV, DIVU, DIVX, DSBB, DSUB, ENTER, EXITD, EXTS, FCLR, FSET, GE, INT, JGE, JGT, JLE, JLT, JMPI, JNO, JO, JSRI, LDC, LDCTX, LDE, LDIPL, LT, MOV, MOVA, MOVHH, MOVHL, MOVLH, MOVLL, MUL, MULU, NEG, NO, NOT, OR, POP, POPC, POPM, PUSH, PUSHA, PUSHC, PUSHM, RMPA, ROLC, RORC, ROT, SBB, SHA, SHL, SMOVB, SMOVF, SSTR, STC, STCTX, STE, SUB, TST, WAIT, XCHG, XOR}
+use Rattle.record.specs.declared.Opcode.the-variants as opcode
 use Rattle.record.specs.declared.Size.{Size}
 use Rattle.record.specs.declared.Size.the-variants as size
 use Rattle.record.specs.declared.Width.{Width}
 use Rattle.record.specs.declared.Width.the-variants.{None, B, W}
 use Rattle.record.specs.declared.Operand.{Operand}
-use Rattle.record.specs.declared.Operand.the-variants.{Nothing, Imm4, R0L, R0, R2R0, R3R1, A1A0, Abs16, Abs20, «Deref_A0», «Deref_A1», «Disp8_A0», «Disp8_A1», «Disp8_SB», «Disp8_FB», «Disp8_SP», «Disp16_A0», «Disp16_A1», «Disp16_SB», «Disp20_A0», «Disp20_A1», «Bit_R0», «Bit_R1», «Bit_R2», «Bit_R3», «Bit_A0», «Bit_A1», «Bit_Deref_A0», «Bit_Deref_A1», «Bit_Disp8_A0», «Bit_Disp8_A1», «Bit_Disp8_SB», «Bit_Disp8_FB», «Bit_Disp16_A0», «Bit_Disp16_A1», «Bit_Disp16_SB», «Bit_Abs16», INTBL, INTBH, FLG, ISP, SP, SB, FB}
+use Rattle.record.specs.declared.Operand.the-variants.{Nothing, Imm4, R0L, R0, R2R0, R3R1, A1A0, Abs16, Abs20, «Deref_A0», «Deref_A1», «Disp8_A0»}
+use Rattle.record.specs.declared.Operand.the-variants.{«Disp8_A1», «Disp8_SB», «Disp8_FB», «Disp8_SP», «Disp16_A0», «Disp16_A1», «Disp16_SB», «Disp20_A0», «Disp20_A1», SP}
 use Rattle.record.specs.Numbers.{opcodeNo}
 use Rattle.record.specs.declared.Key.{Key}
 use Rattle.record.specs.Same.{sameName, Field, nowhere, wide, short, early, fieldOf, key}
@@ -23,7 +24,7 @@ use Rattle.encode_choice.specs.declared.Asked.{Asked}
 use Rattle.encode_rules.specs.Says.{Found}
 use Rattle.encode_rules.specs.steps.Direct.{Choice, code, nothing, taken}
 use Rattle.encode_choice.specs.steps.Coarse.{wholeKey}
-use Rattle.encode_choice.specs.steps.Forms.{formOf, goesWith}
+use Rattle.encode_choice.specs.steps.Forms.{bits, controls, formOf, goesWith}
 
 -- the shortest name for a base, as its number is 0, or below 256
 abbrev pub narrow : Operand → Bool → Bool → Operand
@@ -34,7 +35,7 @@ narrow o z s =
 
 -- no row of MOVA or PUSHA names Deref: there a displacement of 0 is not dropped
 unfoldable pub dropsZero : Opcode → Bool
-dropsZero o = pick (eqb (opcodeNo o) (opcodeNo MOVA)) false (pick (eqb (opcodeNo o) (opcodeNo PUSHA)) false true)
+dropsZero o = pick (eqb (opcodeNo o) (opcodeNo opcode.MOVA)) false (pick (eqb (opcodeNo o) (opcodeNo opcode.PUSHA)) false true)
 
 -- what the choice asks of a key beside the opcode
 abbrev pub asked : Key → Asked
@@ -57,13 +58,15 @@ codeG W o = place wordNames o
 codeG None o = place wordNames o
 
 abbrev pub codeT : Operand → ℕ
-codeT o = place («Bit_R0» ∷ «Bit_R1» ∷ «Bit_R2» ∷ «Bit_R3» ∷ «Bit_A0» ∷ «Bit_A1» ∷ «Bit_Deref_A0» ∷ «Bit_Deref_A1» ∷ «Bit_Disp8_A0» ∷ «Bit_Disp8_A1» ∷ «Bit_Disp8_SB» ∷ «Bit_Disp8_FB» ∷ «Bit_Disp16_A0» ∷ «Bit_Disp16_A1» ∷ «Bit_Disp16_SB» ∷ «Bit_Abs16» ∷ []) o
+codeT o = place bits o
 
 abbrev pub codeJ : Operand → ℕ
-codeJ o = place (R2R0 ∷ R3R1 ∷ Nothing ∷ Nothing ∷ A1A0 ∷ Nothing ∷ «Deref_A0» ∷ «Deref_A1» ∷ «Disp8_A0» ∷ «Disp8_A1» ∷ «Disp8_SB» ∷ «Disp8_FB» ∷ «Disp20_A0» ∷ «Disp20_A1» ∷ «Disp16_SB» ∷ Abs16 ∷ []) o
+codeJ o =
+    place (R2R0 ∷ R3R1 ∷ Nothing ∷ Nothing ∷ A1A0 ∷ Nothing ∷ «Deref_A0» ∷ «Deref_A1» ∷ «Disp8_A0» ∷ «Disp8_A1» ∷ «Disp8_SB» ∷ «Disp8_FB»
+    ∷ «Disp20_A0» ∷ «Disp20_A1» ∷ «Disp16_SB» ∷ Abs16 ∷ []) o
 
 abbrev pub codeK : Operand → ℕ
-codeK o = place (Nothing ∷ INTBL ∷ INTBH ∷ FLG ∷ ISP ∷ SP ∷ SB ∷ FB ∷ []) o
+codeK o = place (Nothing ∷ controls) o
 
 -- the first byte of a pair, by width
 abbrev pub word : Width → ℕ
@@ -138,104 +141,104 @@ abbrev pub shift : ℕ → ℕ → Asked → Choice
 shift h s q = onSize (q .size) (long s q) (binary 0x74 h q)
 
 unfoldable pub chooseBy : Opcode → Asked → Choice
-chooseBy NOP q = nothing
-chooseBy ABS q = unary 0x76 0xF q
-chooseBy ADC q = binary 0x76 6 q
-chooseBy ADCF q = nothing
-chooseBy ADD q = pick (sameName (q .op1) SP) (only 0x7C 0xEB q) (binary 0x76 4 q)
-chooseBy AND q = binary 0x76 2 q
-chooseBy BAND q = bit 4 q
-chooseBy BCLR q = bit 8 q
-chooseBy BMEQ q = condition 2 q
-chooseBy BMGEU q = condition 0 q
-chooseBy BMGT q = condition 0xC q
-chooseBy BMGTU q = condition 1 q
-chooseBy BMLE q = condition 8 q
-chooseBy BMLEU q = condition 5 q
-chooseBy BMLTU q = condition 4 q
-chooseBy BMLT q = bit 2 q
-chooseBy BMNO q = bit 2 q
-chooseBy BMGE q = bit 2 q
-chooseBy BMN q = condition 3 q
-chooseBy BMNE q = condition 6 q
-chooseBy BMO q = condition 9 q
-chooseBy BMPZ q = condition 7 q
-chooseBy BNAND q = bit 5 q
-chooseBy BNOR q = bit 7 q
-chooseBy BNOT q = bit 0xA q
-chooseBy BNTST q = bit 3 q
-chooseBy BNXOR q = bit 0xD q
-chooseBy BOR q = bit 6 q
-chooseBy BSET q = bit 9 q
-chooseBy BTST q = bit 0xB q
-chooseBy BTSTC q = bit 0 q
-chooseBy BTSTS q = bit 1 q
-chooseBy BXOR q = bit 0xC q
-chooseBy CMP q = binary 0x76 8 q
-chooseBy DADC q = decimal 2 q
-chooseBy DADD q = decimal 0 q
-chooseBy DIV q = orImm (only 0x7C 0xE1 q) (unary 0x76 0xD q) q
-chooseBy DIVU q = only 0x7C 0xE0 q
-chooseBy DIVX q = only 0x7C 0xE3 q
-chooseBy DSBB q = decimal 3 q
-chooseBy DSUB q = decimal 1 q
-chooseBy ENTER q = code 0x7C 0xF2
-chooseBy EXITD q = code 0x7D 0xF2
-chooseBy EXTS q = pick (sameName (q .op0) R0) (code 0x7C 0xF3) (code 0x7C (0x60 + codeG B (q .op0)))
-chooseBy FCLR q = nothing
-chooseBy FSET q = nothing
-chooseBy GE q = nothing
-chooseBy INT q = code 0xEB (0xC0 + q .number)
-chooseBy JGE q = code 0x7D 0xCA
-chooseBy JGT q = code 0x7D 0xCC
-chooseBy JLE q = code 0x7D 0xC8
-chooseBy JLT q = code 0x7D 0xCE
-chooseBy JMPI q = code 0x7D (codeJ (q .op0))
-chooseBy JNO q = code 0x7D 0xCD
-chooseBy JO q = code 0x7D 0xC9
-chooseBy JSRI q = code 0x7D (0x10 + codeJ (q .op0))
-chooseBy LDC q = code 0xEB (16 * codeK (q .op1))
-chooseBy LDCTX q = code 0x7C 0xF0
-chooseBy LDE q = binary 0x74 (8 + far (q .op0)) q
-chooseBy LDIPL q = nothing
-chooseBy LT q = nothing
-chooseBy MOV q = binary 0x74 (pick (sameName (q .op0) «Disp8_SP») 0xB 0xC) q
-chooseBy MOVA q = code 0xEB (16 * codeG W (q .op1) + codeG W (q .op0))
-chooseBy MOVHH q = half 3 q
-chooseBy MOVHL q = half 2 q
-chooseBy MOVLH q = half 1 q
-chooseBy MOVLL q = half 0 q
-chooseBy MUL q = twice 0x78 q
-chooseBy MULU q = nothing
-chooseBy NEG q = unary 0x74 5 q
-chooseBy NO q = nothing
-chooseBy NOT q = unary 0x74 7 q
-chooseBy OR q = binary 0x76 3 q
-chooseBy POP q = unary 0x74 0xD q
-chooseBy POPC q = code 0xEB (16 * codeK (q .op0) + 3)
-chooseBy POPM q = nothing
-chooseBy PUSH q = orImm (only 0x7C 0xE2 q) (unary 0x74 4 q) q
-chooseBy PUSHA q = code 0x7D (0x90 + codeG W (q .op0))
-chooseBy PUSHC q = code 0xEB (16 * codeK (q .op0) + 2)
-chooseBy PUSHM q = nothing
-chooseBy RMPA q = only 0x7C 0xF1 q
-chooseBy ROLC q = unary 0x76 0xA q
-chooseBy RORC q = unary 0x76 0xB q
-chooseBy ROT q = binary 0x74 6 q
-chooseBy SBB q = binary 0x76 7 q
-chooseBy SHA q = shift 0xF 2 q
-chooseBy SHL q = shift 0xE 0 q
-chooseBy SMOVB q = only 0x7C 0xE9 q
-chooseBy SMOVF q = only 0x7C 0xE8 q
-chooseBy SSTR q = only 0x7C 0xEA q
-chooseBy STC q = code 0x7B (16 * (8 + codeK (q .op1)) + codeG W (q .op0))
-chooseBy STCTX q = code 0x7D 0xF0
-chooseBy STE q = unary 0x74 (far (q .op1)) q
-chooseBy SUB q = binary 0x76 5 q
-chooseBy TST q = binary 0x76 0 q
-chooseBy WAIT q = code 0x7D 0xF3
-chooseBy XCHG q = twice 0x7A q
-chooseBy XOR q = binary 0x76 1 q
+chooseBy opcode.NOP q = nothing
+chooseBy opcode.ABS q = unary 0x76 0xF q
+chooseBy opcode.ADC q = binary 0x76 6 q
+chooseBy opcode.ADCF q = nothing
+chooseBy opcode.ADD q = pick (sameName (q .op1) SP) (only 0x7C 0xEB q) (binary 0x76 4 q)
+chooseBy opcode.AND q = binary 0x76 2 q
+chooseBy opcode.BAND q = bit 4 q
+chooseBy opcode.BCLR q = bit 8 q
+chooseBy opcode.BMEQ q = condition 2 q
+chooseBy opcode.BMGEU q = condition 0 q
+chooseBy opcode.BMGT q = condition 0xC q
+chooseBy opcode.BMGTU q = condition 1 q
+chooseBy opcode.BMLE q = condition 8 q
+chooseBy opcode.BMLEU q = condition 5 q
+chooseBy opcode.BMLTU q = condition 4 q
+chooseBy opcode.BMLT q = bit 2 q
+chooseBy opcode.BMNO q = bit 2 q
+chooseBy opcode.BMGE q = bit 2 q
+chooseBy opcode.BMN q = condition 3 q
+chooseBy opcode.BMNE q = condition 6 q
+chooseBy opcode.BMO q = condition 9 q
+chooseBy opcode.BMPZ q = condition 7 q
+chooseBy opcode.BNAND q = bit 5 q
+chooseBy opcode.BNOR q = bit 7 q
+chooseBy opcode.BNOT q = bit 0xA q
+chooseBy opcode.BNTST q = bit 3 q
+chooseBy opcode.BNXOR q = bit 0xD q
+chooseBy opcode.BOR q = bit 6 q
+chooseBy opcode.BSET q = bit 9 q
+chooseBy opcode.BTST q = bit 0xB q
+chooseBy opcode.BTSTC q = bit 0 q
+chooseBy opcode.BTSTS q = bit 1 q
+chooseBy opcode.BXOR q = bit 0xC q
+chooseBy opcode.CMP q = binary 0x76 8 q
+chooseBy opcode.DADC q = decimal 2 q
+chooseBy opcode.DADD q = decimal 0 q
+chooseBy opcode.DIV q = orImm (only 0x7C 0xE1 q) (unary 0x76 0xD q) q
+chooseBy opcode.DIVU q = only 0x7C 0xE0 q
+chooseBy opcode.DIVX q = only 0x7C 0xE3 q
+chooseBy opcode.DSBB q = decimal 3 q
+chooseBy opcode.DSUB q = decimal 1 q
+chooseBy opcode.ENTER q = code 0x7C 0xF2
+chooseBy opcode.EXITD q = code 0x7D 0xF2
+chooseBy opcode.EXTS q = pick (sameName (q .op0) R0) (code 0x7C 0xF3) (code 0x7C (0x60 + codeG B (q .op0)))
+chooseBy opcode.FCLR q = nothing
+chooseBy opcode.FSET q = nothing
+chooseBy opcode.GE q = nothing
+chooseBy opcode.INT q = code 0xEB (0xC0 + q .number)
+chooseBy opcode.JGE q = code 0x7D 0xCA
+chooseBy opcode.JGT q = code 0x7D 0xCC
+chooseBy opcode.JLE q = code 0x7D 0xC8
+chooseBy opcode.JLT q = code 0x7D 0xCE
+chooseBy opcode.JMPI q = code 0x7D (codeJ (q .op0))
+chooseBy opcode.JNO q = code 0x7D 0xCD
+chooseBy opcode.JO q = code 0x7D 0xC9
+chooseBy opcode.JSRI q = code 0x7D (0x10 + codeJ (q .op0))
+chooseBy opcode.LDC q = code 0xEB (16 * codeK (q .op1))
+chooseBy opcode.LDCTX q = code 0x7C 0xF0
+chooseBy opcode.LDE q = binary 0x74 (8 + far (q .op0)) q
+chooseBy opcode.LDIPL q = nothing
+chooseBy opcode.LT q = nothing
+chooseBy opcode.MOV q = binary 0x74 (pick (sameName (q .op0) «Disp8_SP») 0xB 0xC) q
+chooseBy opcode.MOVA q = code 0xEB (16 * codeG W (q .op1) + codeG W (q .op0))
+chooseBy opcode.MOVHH q = half 3 q
+chooseBy opcode.MOVHL q = half 2 q
+chooseBy opcode.MOVLH q = half 1 q
+chooseBy opcode.MOVLL q = half 0 q
+chooseBy opcode.MUL q = twice 0x78 q
+chooseBy opcode.MULU q = nothing
+chooseBy opcode.NEG q = unary 0x74 5 q
+chooseBy opcode.NO q = nothing
+chooseBy opcode.NOT q = unary 0x74 7 q
+chooseBy opcode.OR q = binary 0x76 3 q
+chooseBy opcode.POP q = unary 0x74 0xD q
+chooseBy opcode.POPC q = code 0xEB (16 * codeK (q .op0) + 3)
+chooseBy opcode.POPM q = nothing
+chooseBy opcode.PUSH q = orImm (only 0x7C 0xE2 q) (unary 0x74 4 q) q
+chooseBy opcode.PUSHA q = code 0x7D (0x90 + codeG W (q .op0))
+chooseBy opcode.PUSHC q = code 0xEB (16 * codeK (q .op0) + 2)
+chooseBy opcode.PUSHM q = nothing
+chooseBy opcode.RMPA q = only 0x7C 0xF1 q
+chooseBy opcode.ROLC q = unary 0x76 0xA q
+chooseBy opcode.RORC q = unary 0x76 0xB q
+chooseBy opcode.ROT q = binary 0x74 6 q
+chooseBy opcode.SBB q = binary 0x76 7 q
+chooseBy opcode.SHA q = shift 0xF 2 q
+chooseBy opcode.SHL q = shift 0xE 0 q
+chooseBy opcode.SMOVB q = only 0x7C 0xE9 q
+chooseBy opcode.SMOVF q = only 0x7C 0xE8 q
+chooseBy opcode.SSTR q = only 0x7C 0xEA q
+chooseBy opcode.STC q = code 0x7B (16 * (8 + codeK (q .op1)) + codeG W (q .op0))
+chooseBy opcode.STCTX q = code 0x7D 0xF0
+chooseBy opcode.STE q = unary 0x74 (far (q .op1)) q
+chooseBy opcode.SUB q = binary 0x76 5 q
+chooseBy opcode.TST q = binary 0x76 0 q
+chooseBy opcode.WAIT q = code 0x7D 0xF3
+chooseBy opcode.XCHG q = twice 0x7A q
+chooseBy opcode.XOR q = binary 0x76 1 q
 
 -- the code, if these are names that the opcode has in an unmarked row
 unfoldable pub chooseNamed : Opcode → Asked → Choice

@@ -1,18 +1,37 @@
 -- A set of names as a number: bit n is the name of number n.
-use Prim.Native.Nat.{ℕ, _+_, _^_}
+use Prim.Native.Nat.{ℕ, _+_, _^_, _/_, _%_}
+use mathlib.Core.Bool.{Bool}
 use mathlib.Core.List.{List, [], _∷_}
+use lib.Dec.{eqb}
+use lib.ListN.{length}
+use Rattle.laws.specs.Choice.{both}
 use Rattle.record.specs.declared.Operand.{Operand}
+use Rattle.record.specs.declared.Size.{Size}
 use Rattle.record.specs.declared.Width.{Width}
+use Rattle.record.specs.Names.{operands}
 use Rattle.record.specs.Numbers.{sizeNo, operandNo}
-use Rattle.encode_choice.specs.steps.Forms.{Form, names, sizeFor}
+use Rattle.encode_choice.specs.declared.Asked.{Asked}
+use Rattle.encode_choice.specs.declared.name_sets.Form.{Form}
+use Rattle.encode_choice.specs.steps.Forms.{names, sizeFor}
 
 unfoldable pub bitSet : List Operand → ℕ
 bitSet [] = 0
 bitSet (x ∷ xs) = 2 ^ operandNo x + bitSet xs
 
--- names of operand 0, and behind their 57 bits the size
+-- the sizes' bits stand behind the names'
+abbrev pub sizeBit : Size → ℕ
+sizeBit s = length operands + sizeNo s
+
+-- names of operand 0 and the size, and names of operand 1
 abbrev pub first : Form → Width → ℕ
-first f w = 2 ^ (57 + sizeNo (sizeFor f w)) + bitSet (names f w .first)
+first f w = 2 ^ sizeBit (sizeFor f w) + bitSet (names f w .first)
 
 abbrev pub second : Form → Width → ℕ
 second f w = bitSet (names f w .second)
+
+abbrev pub hasBit : ℕ → ℕ → Bool
+hasBit n i = eqb (n / 2 ^ i % 2) 1
+
+-- a size and a name in the first set, a name in the second
+abbrev pub allIn : ℕ → ℕ → Asked → Bool
+allIn m n q = both (hasBit m (sizeBit (q .size))) (both (hasBit m (operandNo (q .op0))) (hasBit n (operandNo (q .op1))))
