@@ -1,5 +1,4 @@
 pub mod Put
-pub mod Room
 pub mod Narrowed
 pub mod Fields
 pub mod Value
