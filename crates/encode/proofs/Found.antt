@@ -14,41 +14,24 @@ use Rattle.record.specs.declared.Operand.the-variants.{Nothing}
 use Rattle.record.specs.Numbers.{sizeNo, widthNo, operandNo}
 use Rattle.record.specs.Same.{sameName, among, fieldOf, baseOf, valueOf, key}
 use Rattle.record.proofs.Apart.{operands-apart}
-use Rattle.rows.specs.All.{everyCode}
-use Rattle.rows.specs.Rows.{known, rowsOf, document01}
-use Rattle.rows.proofs.All.{every-code}
+use Rattle.rows.specs.Rows.{known, document01}
 use Rattle.encode_choice.specs.declared.Asked.{Asked}
 use Rattle.encode_rules.specs.Says.{bytes, none}
-use Rattle.encode_rules.specs.steps.Search.{conds, live, aim, bytesBy}
+use Rattle.encode_rules.specs.steps.Search.{bytesBy}
 use Rattle.encode_choice.specs.steps.Coarse.{whole, wholeRow}
 use Rattle.encode_rules.specs.steps.Can.{can}
 use Rattle.encode_rules.specs.steps.Direct.{Choice, code, nothing, able, taken}
 use Rattle.encode_choice.specs.steps.Forms.{formOf, numberLimit, goesWith}
 use Rattle.encode_choice.specs.steps.Choose.{asked, dropsZero, chooseBy, chooseNamed, encoded}
-use Rattle.encode_rules.proofs.Bools.{so, both-true, picked}
+use Rattle.encode_rules.proofs.Bools.{both-true}
 use Rattle.encode_choice.proofs.Formed.{Formed, formed}
 use Rattle.encode.specs.declared.Plan.{Plan}
 use Rattle.encode.specs.steps.Faced.{faceBy, conditions}
 use Rattle.encode.specs.steps.Plan.{planned, foundBy}
 use Rattle.encode.specs.steps.Slots as slots
 use Rattle.encode.specs.steps.Slots.{limitOf}
-use Rattle.encode.proofs.Asks.{spelled}
-use Rattle.encode.proofs.Sayable.{agreeing, said}
 use Rattle.encode.proofs.Narrowed.{base-kept, whole-kept, whole-base}
-use Rattle.encode.proofs.Laid.{laid-as}
-use Rattle.encode.proofs.Ordered.{ordered, said-if-small, part-small}
-
--- 7E 2n reads a condition, no other live row does
-conditional : ℕ → ℕ → Bool
-conditional a b = pick (live (document01 .rowAt a b)) (eqb (conds (document01 .rowAt a b .reads)) (conditions a b)) true
-
-all-conditional : T (everyCode conditional)
-unfolding everyCode conditional rowsOf conds
-all-conditional = tt
-
-conditioned : (a b : ℕ) → known a ≡ true → b < 256 → live (document01 .rowAt a b) ≡ true → conds (document01 .rowAt a b .reads) ≡ conditions a b
-unfolding conditional
-conditioned a b e l v = eqb-true _ _ (so _ (picked _ _ (every-code conditional all-conditional b l a e) v))
+use Rattle.encode.proofs.Ordered.{sayable, ordered, said-if-small, part-small}
 
 -- first bytes of the part are not 0
 known-code : (a : ℕ) → known a ≡ true → eqb a 0 ≡ false
@@ -108,25 +91,23 @@ module _ (r : Record) (third : sameName (r .op2) Nothing ≡ true) (a b : ℕ) (
   e : known a ≡ true
   e = both-true (ltb b 256) (known a) (both-true (ltb a 256) _ (the-row .there) .1) .1
 
-  c : conds (document01 .rowAt a b .reads) ≡ conditions a b
-  c = conditioned a b e second-below (the-row .lives)
-
-  -- its names agree with the key's
-  agree : (rest : Bool) → agreeing (document01 .rowAt a b .face) (conds (document01 .rowAt a b .reads)) k rest ≡ rest
-  unfolding fieldOf among sameName
-  agree rest =
+  -- its names agree with the key's, so its numbers tell whether it can say the key
+  agree : can (document01 .rowAt a b) k ≡ sayable a b e second-below (the-row .lives) k
+  unfolding can fieldOf among sameName
+  agree =
       let w = document01 .rowAt a b in
       let base0 : baseOf (w .face .op0) ≡ k .base0 = ap baseOf (the-row .op0) ∙ base-kept zero0 small0 (r .op0) in
       let base1 : baseOf (w .face .op1) ≡ k .base1 = ap baseOf (the-row .op1) ∙ base-kept zero1 small1 (r .op1) in
       let base2 : baseOf Nothing ≡ k .base2 = ap baseOf (sym no-third) in
       let number2 : k .number2 ≡ 0 = ap (λ o. valueOf (fieldOf o) r) no-third in
-      rw (the-row .opcode)
+      rw (the-row .lives)
+      (rw (the-row .opcode)
       (rw (eq-eqb _ _ (ap sizeNo (the-row .size)))
       (rw (eq-eqb _ _ (ap widthNo (the-row .width)))
       (rw (eq-eqb _ _ (ap operandNo base0))
       (rw (eq-eqb _ _ (ap operandNo base1))
       (rw (eq-eqb _ _ (ap operandNo base2))
-      (rw (eq-eqb _ _ number2) refl))))))
+      (rw (eq-eqb _ _ number2) refl)))))))
 
   -- a number that is part of the code is the key's, and small
   whole-asked : wholeRow (document01 .rowAt a b .face) ≡ whole (q .width) (q .op0)
@@ -144,8 +125,7 @@ module _ (r : Record) (third : sameName (r .op2) Nothing ≡ true) (a b : ℕ) (
   unfolding able slots.fitting
   able-is =
       ap (λ g. both g (can (document01 .rowAt a b) k)) (the-row .there)
-      ∙ said a b e second-below (the-row .lives) k
-      ∙ agree _
+      ∙ agree
       ∙ said-if-small a b e second-below (the-row .lives) k (the-row .condition) part
       ∙ (λ j. both (ltb (k .number0) (limitOf (the-row .op0 j))) (ltb (k .number1) (limitOf (the-row .op1 j))))
 
@@ -154,18 +134,15 @@ module _ (r : Record) (third : sameName (r .op2) Nothing ≡ true) (a b : ℕ) (
   not-said u = ap (λ z. pick z (bytes (bytesBy document01 a b k)) none) (sym (able-is ∙ u)) ∙ ap (λ x. taken document01 x k) (sym chosen)
 
   -- what stands behind the code does not depend on its opcode or size
-  same-slots : slots.slots (document01 .rowAt a b .face) (conds (document01 .rowAt a b .reads)) k ≡ slots.slots (faceBy q) (conditions a b) k
+  same-slots : slots.slots (document01 .rowAt a b .face) (conditions a b) k ≡ slots.slots (faceBy q) (conditions a b) k
   unfolding slots.slots
   same-slots =
       let f = document01 .rowAt a b .face in
-      λ j. slots.slots (record { opcode = f .opcode; size = f .size; width = the-row .width j; op0 = the-row .op0 j; op1 = the-row .op1 j; marked = f .marked }) (c j) k
+      λ j. slots.slots (record { opcode = f .opcode; size = f .size; width = the-row .width j; op0 = the-row .op0 j; op1 = the-row .op1 j; marked = f .marked }) (conditions a b) k
 
   in-slots : bytesBy document01 a b k ≡ a ∷ b ∷ slots.slots (faceBy q) (conditions a b) k
   unfolding bytesBy
-  in-slots =
-      let w = document01 .rowAt a b in
-      ap (λ xs. a ∷ b ∷ xs)
-      (spelled a b e second-below (the-row .lives) (aim (w .face) k) ∙ laid-as (w .face) (conds (w .reads)) k ∙ ordered a b e second-below (the-row .lives) k ∙ same-slots)
+  in-slots = ap (λ xs. a ∷ b ∷ xs) (ordered a b e second-below (the-row .lives) k ∙ same-slots)
 
   pub said-by : slots.fitting (faceBy q) k ≡ true → (p : Plan) → planned p ≡ a ∷ b ∷ slots.slots (faceBy q) (conditions a b) k → foundBy p ≡ encoded r
   unfolding taken

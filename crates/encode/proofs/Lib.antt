@@ -1,12 +1,7 @@
 pub mod Put
-pub mod Room
-pub mod Slim
-pub mod Asks
-pub mod Sayable
 pub mod Narrowed
 pub mod Fields
 pub mod Value
-pub mod Laid
 pub mod Found
 pub mod Tagged
 pub mod Ordered

@@ -1,80 +1,62 @@
--- Bytes put over others, from a place on.
+-- A plan's bytes, written a part at a time, and in a buffer from a place on, with room for them and without.
 -- Assumes nothing.
-use Prim.Native.Nat.{ℕ, suc, _+_, _≤_}
-use mathlib.Core.Path.{_≡_, sym, ap, _∙_}
-use mathlib.Core.List.{List, [], _∷_, _++_, append-assoc, append-nil}
+use Prim.Native.Nat.{ℕ, _+_, _-_, _≤_, _<_}
+use mathlib.Core.Path.{_≡_, sym, ap, ap₂, _∙_}
+use mathlib.Core.List.{List, _∷_, _++_}
 use native.Mathlib.Omega.{arith}
-use native.Mathlib.Numerals.{add-one}
-use lib.ListN.{length, take, drop, set, length-append, length-drop, take-append-drop}
-use lib.Seq.{sets-eq, take-at, drop-at, drop-drop, length-take-le}
+use lib.ListN.{length, take, drop, set, length-append, length-set}
+use borrow.Rule.Slice.PartMut.{putMid}
+use borrow.Author.Tests.{le-leb, lt-leb}
+use Rattle.laws.specs.Over.{over, put}
+use Rattle.laws.proofs.Over.{put-one, put-whole, put-length, put-more, written-part}
 use Rattle.encode_rules.specs.steps.Digits.{digits}
+use Rattle.encode_rules.specs.Says.{bytes}
+use Rattle.encode_rules.specs.Written.{outcome, written}
 use Rattle.encode_rules.proofs.Runs.{digits-length}
 use Rattle.encode.specs.declared.Plan.{Plan}
-use Rattle.encode.specs.steps.Plan.{planned, put}
+use Rattle.encode.specs.steps.Plan.{planned}
 
-module _ (l : List ℕ) (at : ℕ) where
-  pub put-none : l ≡ put at [] l
-  put-none =
-      let e : at + 0 ≡ at = omega arith in
-      sym (ap (λ k. take at l ++ [] ++ drop k l) e ∙ ap (λ r. r ++ drop at l) (append-nil (take at l)) ∙ take-append-drop at l)
-
-  pub put-one : (a : ℕ) → at + 1 ≤ length l → set l at a ≡ put at (a ∷ []) l
-  put-one a h = sets-eq (a ∷ []) l at h
-
-  pub put-two : (a b : ℕ) → at + 2 ≤ length l → set (set l at a) (at + 1) b ≡ put at (a ∷ b ∷ []) l
-  put-two a b h = ap (λ k. set (set l at a) k b) (add-one at) ∙ sets-eq (a ∷ b ∷ []) l at h
-
-  pub put-three : (a b c : ℕ) → at + 3 ≤ length l → set (set (set l at a) (at + 1) b) (at + 2) c ≡ put at (a ∷ b ∷ c ∷ []) l
-  put-three a b c h =
-      let e : at + 2 ≡ suc (suc at) = omega arith in
-      ap (λ k. set (set (set l at a) (at + 1) b) k c) e ∙ ap (λ k. set (set (set l at a) k b) (suc (suc at)) c) (add-one at)
-      ∙ sets-eq (a ∷ b ∷ c ∷ []) l at h
-
-  -- more behind what was put
-  pub put-more : (xs ys : List ℕ) → at + length xs ≤ length l → put (at + length xs) ys (put at xs l) ≡ put at (xs ++ ys) l
-  put-more xs ys h =
-      let p = take at l ++ xs in
-      let q = drop (at + length xs) l in
-      let n : length p ≡ at + length xs = length-append (take at l) xs ∙ ap (λ k. k + length xs) (length-take-le at l (omega arith)) in
-      let t : take (at + length xs) (p ++ q) ≡ p = take-at p q (at + length xs) n in
-      let d : drop (at + length xs + length ys) (p ++ q) ≡ drop (at + length xs + length ys) l =
-      sym (drop-drop (length ys) (at + length xs) (p ++ q)) ∙ ap (drop (length ys)) (drop-at p q (at + length xs) n) ∙ drop-drop (length ys) (at + length xs) l
-      in
-      let s : at + length xs + length ys ≡ at + length (xs ++ ys) = omega (arith, length-append xs ys) in
-      ap (λ z. z ++ ys ++ drop (at + length xs + length ys) (p ++ q)) t ∙ ap (λ z. p ++ ys ++ z) d ∙ ap (λ z. z ++ drop (at + length xs + length ys) l) (append-assoc (take at l) xs ys)
-      ∙ ap (λ k. take at l ++ (xs ++ ys) ++ drop k l) s
-
-pub put-length : (l : List ℕ) (at : ℕ) (xs : List ℕ) → at + length xs ≤ length l → length (put at xs l) ≡ length l
-put-length l at xs h =
-    length-append (take at l ++ xs) (drop (at + length xs) l)
-    ∙ omega (arith, length-append (take at l) xs, length-take-le at l (omega arith), length-drop (at + length xs) l)
+pub planned-length : (p : Plan) → length (planned p) ≡ 2 + p .count + p .«rest_count»
+planned-length p =
+    let xs = digits (p .count) (p .number) in
+    let ys = digits (p .«rest_count») (p .rest) in
+    omega (arith, length-append xs ys, digits-length (p .count) (p .number), digits-length (p .«rest_count») (p .rest))
 
 -- a code's two bytes, then a number, then another
 module _ (l : List ℕ) (p : Plan) (h : 2 + p .count + p .«rest_count» ≤ length l) {x : List ℕ}
     (number : x ≡ put 2 (digits (p .count) (p .number)) (set (set l 0 (p .first)) 1 (p .second))) where
-  begun : x ≡ put 0 (p .first ∷ p .second ∷ digits (p .count) (p .number)) l
-  begun =
-      let e = digits-length (p .count) (p .number) in
-      number ∙ ap (put 2 (digits (p .count) (p .number))) (put-two l 0 (p .first) (p .second) (omega arith))
-      ∙ put-more l 0 (p .first ∷ p .second ∷ []) (digits (p .count) (p .number)) (omega arith)
+  abbrev coded : List ℕ
+  coded = set (set l 0 (p .first)) 1 (p .second)
 
-  -- nothing changes the length
-  begun-length : length x ≡ length l
-  begun-length = ap length begun ∙ put-length l 0 (p .first ∷ p .second ∷ digits (p .count) (p .number)) (omega (arith, digits-length (p .count) (p .number)))
+  long : length coded ≡ length l
+  long = simp length-set
 
   pub room : 2 + p .count + p .«rest_count» ≤ length x
-  room = omega (arith, begun-length)
-
-  pub laid : {y : List ℕ} → y ≡ put (2 + p .count) (digits (p .«rest_count») (p .rest)) x → y ≡ put 0 (planned p) l
-  laid rest =
+  room =
       let e = digits-length (p .count) (p .number) in
-      let z = p .first ∷ p .second ∷ digits (p .count) (p .number) in
-      let place : 2 + p .count ≡ 0 + length z = omega arith in
-      rest ∙ ap (put (2 + p .count) (digits (p .«rest_count») (p .rest))) begun
-      ∙ ap (λ k. put k (digits (p .«rest_count») (p .rest)) (put 0 z l)) place
-      ∙ put-more l 0 z (digits (p .«rest_count») (p .rest)) (omega arith)
+      omega (arith, long, ap length number, put-length 2 coded (digits (p .count) (p .number)) (omega (arith, long)))
+
+  pub laid : {y : List ℕ} → y ≡ put (2 + p .count) (digits (p .«rest_count») (p .rest)) x → y ≡ over (planned p) l
+  laid rest =
+      let xs = digits (p .count) (p .number) in
+      let ys = digits (p .«rest_count») (p .rest) in
+      let e = digits-length (p .count) (p .number) in
+      let place : 2 + p .count ≡ 2 + length xs = omega arith in
+      rest ∙ ap (put (2 + p .count) ys) number
+      ∙ sym
+      (put-one 0 l (p .first) (p .second ∷ xs ++ ys) (omega arith)
+      ∙ put-one 1 (set l 0 (p .first)) (p .second) (xs ++ ys) (simp length-set (omega arith))
+      ∙ put-more 2 coded xs (omega (arith, long)) ys place)
 
   pub laid-length : {y : List ℕ} → y ≡ put (2 + p .count) (digits (p .«rest_count») (p .rest)) x → length y ≡ length l
-  laid-length rest =
-      ap length (laid rest)
-      ∙ put-length l 0 (planned p) (omega (arith, length-append (digits (p .count) (p .number)) (digits (p .«rest_count») (p .rest)), digits-length (p .count) (p .number), digits-length (p .«rest_count») (p .rest)))
+  laid-length rest = ap length (laid rest) ∙ put-length 0 l (planned p) (omega (arith, planned-length p))
+
+module _ (bs : List ℕ) (k : ℕ) (xs : List ℕ) where
+  pub none : length bs < k + length xs → outcome 6 0 bs ≡ written (bytes xs) bs k
+  unfolding written
+  none h = rw (lt-leb _ _ h)
+
+  pub some : {n : ℕ} {ys : List ℕ} → n ≡ length xs → k + length xs ≤ length bs → ys ≡ over xs (take (length bs - k) (drop k bs))
+      → outcome 0 n (putMid k (length bs - k) bs ys) ≡ written (bytes xs) bs k
+  unfolding written
+  some l h e = rw (le-leb _ _ h) (ap₂ (outcome 0) l (written-part k bs xs (omega arith) e ∙ put-whole k bs xs))

@@ -22,10 +22,9 @@ pub(crate) fn fits(q: Asked, k: Key) -> bool
 {
     let op0 = q.op0;
     let op1 = q.op1;
-    joined::both(
-        k.number0 < counts::limit(op0),
-        k.number1 < counts::limit(op1),
-    )
+    let slot0 = counts::slot_of(op0);
+    let slot1 = counts::slot_of(op1);
+    joined::both(k.number0 < slot0.limit, k.number1 < slot1.limit)
 }
 
 fn turns(o: Operand) -> bool
@@ -53,7 +52,8 @@ fn count0(q: Asked) -> u8
     if names::is_whole(width, op0) {
         return 0;
     }
-    counts::count(op0)
+    let slot = counts::slot_of(op0);
+    slot.count
 }
 
 fn count1(q: Asked, c: u8) -> u8
@@ -61,7 +61,8 @@ fn count1(q: Asked, c: u8) -> u8
 {
     let op1 = q.op1;
     if c == 0 {
-        return counts::count(op1);
+        let slot = counts::slot_of(op1);
+        return slot.count;
     }
     1
 }

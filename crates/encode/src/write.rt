@@ -2,10 +2,11 @@
 ghost use mathlib.Core.Path.{_≡_};
 ghost use Prim.Native.Nat.{_+_, _≤_};
 ghost use lib.ListN.{length};
+ghost use Rattle.laws.specs.Over.{over, put};
 ghost use Rattle.encode_rules.specs.steps.Digits.{digits};
 ghost use Rattle.encode_rules.specs.Says.{bytes};
 ghost use Rattle.encode_rules.specs.Written.{outcome, written};
-ghost use Rattle.encode.specs.steps.Plan.{planned, put};
+ghost use Rattle.encode.specs.steps.Plan.{planned};
 use crate::Encoded;
 use crate::Plan;
 use record::refusal;
@@ -22,17 +23,19 @@ fn write_number(out: &mut [u8], at: usize, n: u8, v: u32)
     if n == 1 {
         return;
     }
-    out[at + 1] = (v / 256 % 256) as u8;
+    let second = at + 1;
+    out[second] = (v / 256 % 256) as u8;
     if n == 2 {
         return;
     }
-    out[at + 2] = (v / 256 / 256 % 256) as u8;
+    let third = second + 1;
+    out[third] = (v / 256 / 256 % 256) as u8;
 }
 
-// A plan's bytes over the first of what is lent.
+// A plan's bytes over the first of what is passed in.
 fn write_plan(out: &mut [u8], p: Plan)
     requires { ⌜ (p .count ≤ 3) × (p .«rest_count» ≤ 3) × (2 + p .count + p .«rest_count» ≤ length (now out)) ⌝ }
-    ensures { λ r. ⌜ now (out .exit) ≡ put 0 (planned p) (now (out .entry)) ⌝ }
+    ensures { λ r. ⌜ now (out .exit) ≡ over (planned p) (now (out .entry)) ⌝ }
 {
     out[0] = p.first;
     out[1] = p.second;
@@ -41,7 +44,7 @@ fn write_plan(out: &mut [u8], p: Plan)
     write_number(out, k, p.rest_count, p.rest);
 }
 
-// A plan's bytes from a place of a buffer on: the rest of the buffer is lent to the writer. 6 with too little room.
+// A plan's bytes from a place of a buffer on: the rest of the buffer is passed to the writer. 6 with too little room.
 pub(crate) fn write_at(buf: &mut [u8], place: usize, p: Plan) -> Encoded
     requires { ⌜ (p .count ≤ 3) × (p .«rest_count» ≤ 3) ⌝ }
     ensures { λ r. ⌜ outcome (r .refusal) (r .length) (now (buf .exit)) ≡ written (bytes (planned p)) (now (buf .entry)) place ⌝ }

@@ -2,3 +2,4 @@ pub mod Choice
 pub mod Range
 pub mod Table
 pub mod Rest
+pub mod Over

@@ -1,3 +1,4 @@
 pub mod Choice
 pub mod Range
 pub mod Table
+pub mod Over

@@ -1,13 +1,16 @@
 -- The numbers of a key behind a code: each operand's in its bytes, in their order, and a condition.
 -- (Steps of the encoder: that the rows read them so is proved, not believed.)
-use Prim.Native.Nat.{ℕ, zero, suc, _+_}
+use Prim.Native.Nat.{ℕ, zero, suc}
 use mathlib.Core.Bool.{Bool}
 use mathlib.Core.List.{List, [], _∷_, _++_}
 use lib.Dec.{ltb, eqb}
 use Rattle.laws.specs.Choice.{pick, both, either}
 use Rattle.record.specs.declared.Key.{Key}
 use Rattle.record.specs.declared.Operand.{Operand}
-use Rattle.record.specs.declared.Operand.the-variants.{Imm4, Imm8, Imm16, Abs16, Abs20, Disp8, «Disp8_A0», «Disp8_A1», «Disp8_SB», «Disp8_FB», «Disp8_SP», «Disp16_A0», «Disp16_A1», «Disp16_SB», «Disp20_A0», «Disp20_A1», «Bit_R0», «Bit_R1», «Bit_R2», «Bit_R3», «Bit_A0», «Bit_A1», «Bit_Disp8_A0», «Bit_Disp8_A1», «Bit_Disp8_SB», «Bit_Disp8_FB», «Bit_Disp16_A0», «Bit_Disp16_A1», «Bit_Disp16_SB», «Bit_Abs16»}
+use Rattle.record.specs.declared.Operand.the-variants.{Imm4, Imm8, Imm16, Abs16, Abs20, Disp8, «Disp8_A0», «Disp8_A1», «Disp8_SB», «Disp8_FB», «Disp8_SP»}
+use Rattle.record.specs.declared.Operand.the-variants.{«Disp16_A0», «Disp16_A1», «Disp16_SB», «Disp20_A0», «Disp20_A1»}
+use Rattle.record.specs.declared.Operand.the-variants.{«Bit_R0», «Bit_R1», «Bit_R2», «Bit_R3», «Bit_A0», «Bit_A1», «Bit_Abs16»}
+use Rattle.record.specs.declared.Operand.the-variants.{«Bit_Disp8_A0», «Bit_Disp8_A1», «Bit_Disp8_SB», «Bit_Disp8_FB», «Bit_Disp16_A0», «Bit_Disp16_A1», «Bit_Disp16_SB»}
 use Rattle.record.specs.Same.{sameName, among, fieldOf}
 use Rattle.rows.specs.Row.{Face}
 use Rattle.rows.specs.Run.{twentyBits}
@@ -16,19 +19,20 @@ use Rattle.encode_rules.specs.steps.Search.{condByte}
 use Rattle.encode_choice.specs.steps.Coarse.{wholeRow}
 use Rattle.encode_choice.specs.steps.Coded.{isWide}
 
--- how many bytes of displacement a name asks for, bit numbers among them
-unfoldable pub near : Operand → ℕ
-near a =
-    pick (among («Disp8_A0» ∷ «Disp8_A1» ∷ «Disp8_SB» ∷ «Disp8_FB» ∷ «Disp8_SP» ∷ «Bit_R0» ∷ «Bit_R1» ∷ «Bit_R2» ∷ «Bit_R3» ∷ «Bit_A0» ∷ «Bit_A1» ∷ «Bit_Disp8_A0» ∷ «Bit_Disp8_A1» ∷ «Bit_Disp8_SB» ∷ «Bit_Disp8_FB» ∷ []) a) 1
-    (pick (among («Disp16_A0» ∷ «Disp16_A1» ∷ «Disp16_SB» ∷ Abs16 ∷ «Bit_Disp16_A0» ∷ «Bit_Disp16_A1» ∷ «Bit_Disp16_SB» ∷ «Bit_Abs16» ∷ []) a) 2 0)
+-- the names whose number has one, two or three bytes, bit numbers among them
+abbrev pub oneByte : List Operand
+oneByte =
+    Imm8 ∷ «Bit_R0» ∷ «Bit_R1» ∷ «Bit_R2» ∷ «Bit_R3» ∷ «Bit_A0» ∷ «Bit_A1» ∷ «Bit_Disp8_A0» ∷ «Bit_Disp8_A1» ∷ «Bit_Disp8_SB» ∷ «Bit_Disp8_FB»
+    ∷ «Disp8_A0» ∷ «Disp8_A1» ∷ «Disp8_SB» ∷ «Disp8_FB» ∷ «Disp8_SP» ∷ Disp8 ∷ []
 
--- how many bytes of another number
-unfoldable pub far : Operand → ℕ
-far a = pick (among (Imm8 ∷ Disp8 ∷ []) a) 1 (pick (sameName a Imm16) 2 (pick (among (Abs20 ∷ «Disp20_A0» ∷ «Disp20_A1» ∷ []) a) 3 0))
+abbrev pub twoBytes : List Operand
+twoBytes = Imm16 ∷ «Bit_Disp16_A0» ∷ «Bit_Disp16_A1» ∷ «Bit_Disp16_SB» ∷ «Bit_Abs16» ∷ «Disp16_A0» ∷ «Disp16_A1» ∷ «Disp16_SB» ∷ Abs16 ∷ []
 
--- of either kind
-abbrev pub countOf : Operand → ℕ
-countOf o = near o + far o
+abbrev pub threeBytes : List Operand
+threeBytes = «Disp20_A0» ∷ «Disp20_A1» ∷ Abs20 ∷ []
+
+unfoldable pub countOf : Operand → ℕ
+countOf o = pick (among oneByte o) 1 (pick (among twoBytes o) 2 (pick (among threeBytes o) 3 0))
 
 -- what a number of so many bytes must be below: 20 bits of three, 0 of none
 abbrev pub limitBy : ℕ → ℕ

@@ -18,7 +18,7 @@ returns-2 : tie.Need-returns-2
 returns-2 c =
     let left = c .before in
     let q = left .before .before .args .q in
-    (c .count .ensures .0 ∙ ap (λ w. pick w 0 (countOf (q .op0))) (sym (sym (left .before .is-whole .ensures ∙ whole-base (q .width) (q .op0)) ∙ left .if1 .left)), c .count .ensures .1)
+    (c .slot-of .ensures .0 .0 ∙ ap (λ w. pick w 0 (countOf (q .op0))) (sym (sym (left .before .is-whole .ensures ∙ whole-base (q .width) (q .op0)) ∙ left .if1 .left)), c .slot-of .ensures .0 .1)
 
 pub count0-spec : {M : Type 1} → statement M
 count0-spec = tie.close (tie.spec (λ c κs. search needs) returns (λ c κs. search needs) returns-2)

@@ -8,7 +8,7 @@ use Rattle.encode.proofs.layout.count1.Statement.{statement}
 use Rattle.encode.proofs.layout.count1.Tie as tie
 
 returns : tie.Need-returns
-returns c = rw (eq-eqb _ _ (c .before .if1 .taken)) (c .count .ensures)
+returns c = rw (eq-eqb _ _ (c .before .if1 .taken)) (c .slot-of .ensures .0)
 
 returns-2 : tie.Need-returns-2
 returns-2 c = rw (ne-eqb _ _ (c .if1 .left)) (refl, omega arith)

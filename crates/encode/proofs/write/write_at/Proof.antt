@@ -7,7 +7,7 @@ use lib.ListN.{length, length-drop}
 use borrow.Author.Needs.{needs}
 use Rattle.encode.specs.steps.Plan.{planned}
 use Rattle.laws.proofs.Rest.{rest}
-use Rattle.encode.proofs.Room.{none, some, planned-length}
+use Rattle.encode.proofs.Put.{none, some, planned-length}
 use Rattle.encode.proofs.write.write_at.Statement.{statement}
 use Rattle.encode.proofs.write.write_at.Tie as tie
 

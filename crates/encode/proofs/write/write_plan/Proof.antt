@@ -16,20 +16,33 @@ slice-write-out-2 c = simp length-set (omega (arith, c .before .pre .2))
 write-number-requires : tie.Need-write-number-requires
 write-number-requires c κs = (c .before .before .pre .0, simp length-set (omega (arith, c .before .before .pre .2)))
 
+-- where it began, after the first number
+abbrev begun : tie.After-write-number → tie.Start
+begun t = t .before .before .before
+
 write-number-requires-2 : tie.Need-write-number-requires-2
 write-number-requires-2 c κs =
-    let start = c .before .before .before .before .before .before .before in
-    (start .pre .1, room (start .args .out .now) (start .args .p) (start .pre .2) (c .before .before .before .before .write-number .ensures))
+    let t = c .before .before .before .before in
+    let start = begun t in
+    (start .pre .1, room (start .args .out .now) (start .args .p) (start .pre .2) (t .write-number .ensures))
+
+-- after the second
+abbrev one-number : tie.After-write-number2 → tie.After-write-number
+one-number t = t .before .before .before .before .before
 
 same-length : tie.Need-same-length
 same-length c =
-    let start = c .before .before .before .before .before .before .before .before .before .before in
-    laid-length (start .args .out .now) (start .args .p) (start .pre .2) (c .before .before .before .before .before .before .before .write-number .ensures) (c .before .before .write-number2 .ensures)
+    let u = c .before .before in
+    let t = one-number u in
+    let start = begun t in
+    laid-length (start .args .out .now) (start .args .p) (start .pre .2) (t .write-number .ensures) (u .write-number2 .ensures)
 
 returns : tie.Need-returns
 returns c =
-    let start = c .before .before .before .before .before .before .before .before .before .before in
-    laid (start .args .out .now) (start .args .p) (start .pre .2) (c .before .before .before .before .before .before .before .write-number .ensures) (c .before .before .write-number2 .ensures)
+    let u = c .before .before in
+    let t = one-number u in
+    let start = begun t in
+    laid (start .args .out .now) (start .args .p) (start .pre .2) (t .write-number .ensures) (u .write-number2 .ensures)
 
 pub write-plan-spec : {M : Type 1} → statement M
 write-plan-spec = tie.close (tie.spec slice-write-out slice-write-out-2 write-number-requires (λ c. search needs) (λ c. search needs) write-number-requires-2 same-length returns)
