@@ -8,16 +8,23 @@ use lib.Dec.{eqb}
 use borrow.Author.Tests.{eqb-true, ne-eqb}
 use Rattle.record.specs.declared.Operand.{Operand}
 use Rattle.record.specs.declared.Operand.the-variants.{«Disp8_SP»}
-use Rattle.record.specs.Same.{sameName, among, Field, nowhere, wide, short, early, fieldOf}
+use Rattle.record.specs.declared.fields.Field.{Field}
+use Rattle.record.specs.declared.fields.Field.the-variants.{Nowhere as nowhere, Wide as wide, Short as short, Early as early}
+use Rattle.record.specs.Same.{sameName, among, fieldOf}
 use Rattle.record.proofs.Apart.{operands-apart}
 use Rattle.record.proofs.Arms.{every-operand, bit, bits-apart}
 use Rattle.encode_rules.proofs.Bools.{so}
 use Rattle.encode.specs.steps.Slots.{near}
-use Rattle.encode.specs.steps.Value.{isShort}
 
 -- no test is both
 pub no : {A : Type 0} → true ≡ false → A
 no e = absurd (false≢true (sym e))
+
+abbrev pub isShort : Field → Bool
+isShort short = true
+isShort nowhere = false
+isShort wide = false
+isShort early = false
 
 near-short : (o : Operand) → not (eqb (near o) 0) ≡ isShort (fieldOf o)
 unfolding near sameName among fieldOf
@@ -38,14 +45,3 @@ near-some o = not-zero (near o) ∙ near-short o
 pub sp-short : (o : Operand) → sameName o «Disp8_SP» ≡ true → isShort (fieldOf o) ≡ true
 unfolding sameName among fieldOf
 sp-short o e = ap (λ o. isShort (fieldOf o)) (operands-apart o «Disp8_SP» (eqb-true _ _ e))
-
--- no name asks for `first` by itself
-abbrev pub isEarly : Field → Bool
-isEarly early = true
-isEarly nowhere = false
-isEarly wide = false
-isEarly short = false
-
-pub never-early : (o : Operand) → isEarly (fieldOf o) ≡ false
-unfolding sameName among fieldOf
-never-early o = bits-apart _ _ (eqb-true _ _ (so _ (every-operand (λ o. eqb (bit (isEarly (fieldOf o))) 0) tt o)))

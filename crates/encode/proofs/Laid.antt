@@ -9,15 +9,16 @@ use mathlib.Core.Logic.{_⊎_, inl, inr}
 use Rattle.laws.specs.Choice.{pick, both}
 use Rattle.record.specs.declared.Key.{Key}
 use Rattle.record.specs.declared.Operand.the-variants.{«Disp8_SP»}
-use Rattle.record.specs.Same.{sameName, Field, nowhere, wide, short, early, fieldOf}
+use Rattle.record.specs.declared.fields.Field.{Field}
+use Rattle.record.specs.declared.fields.Field.the-variants.{Nowhere as nowhere, Wide as wide, Short as short, Early as early}
+use Rattle.record.specs.Same.{sameName, fieldOf}
 use Rattle.rows.specs.Row.{Face}
 use Rattle.encode_rules.specs.steps.Digits.{digits}
 use Rattle.encode_rules.specs.steps.Search.{dispFor, firstFor, aim, condByte, wideFor}
 use Rattle.encode_choice.proofs.Formed.{meant}
 use Rattle.encode.specs.steps.Slots.{near}
 use Rattle.encode.proofs.Asks.{before, behind, further, front, numbers, fitting, fittingNumber, allFitting}
-use Rattle.encode.specs.steps.Value.{isShort}
-use Rattle.encode.proofs.Fields.{no, some, near-some, sp-short}
+use Rattle.encode.proofs.Fields.{no, isShort, some, near-some, sp-short}
 
 -- each has so many bytes
 pub record Parts : Type 0 where

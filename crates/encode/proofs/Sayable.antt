@@ -9,7 +9,9 @@ use Rattle.laws.specs.Choice.{both}
 use Rattle.record.specs.declared.Operand.the-variants.{Nothing}
 use Rattle.record.specs.Numbers.{sizeNo, widthNo, operandNo}
 use Rattle.record.specs.declared.Key.{Key}
-use Rattle.record.specs.Same.{Field, nowhere, wide, short, early, fieldOf, baseOf}
+use Rattle.record.specs.declared.fields.Field.{Field}
+use Rattle.record.specs.declared.fields.Field.the-variants.{Nowhere as nowhere, Wide as wide, Short as short, Early as early}
+use Rattle.record.specs.Same.{fieldOf, baseOf}
 use Rattle.rows.specs.Row.{Read, Face}
 use Rattle.rows.specs.Rows.{known, document01}
 use Rattle.encode_rules.specs.steps.Search.{imms, conds, live, aim}
