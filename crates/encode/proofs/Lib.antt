@@ -1,6 +1,5 @@
 pub mod Put
 pub mod Narrowed
-pub mod Fields
 pub mod Value
 pub mod Found
 pub mod Tagged

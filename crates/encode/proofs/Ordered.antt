@@ -12,7 +12,8 @@ use Rattle.laws.proofs.Choice.{both-left, both-right}
 use Rattle.record.specs.declared.Key.{Key}
 use Rattle.record.specs.declared.Operand.{Operand}
 use Rattle.record.specs.declared.Operand.the-variants.{Imm4, Imm8}
-use Rattle.record.specs.Same.{sameName, among, Field, fieldOf, baseOf}
+use Rattle.record.specs.declared.fields.Field.{Field}
+use Rattle.record.specs.Same.{sameName, among, fieldOf, baseOf}
 use Rattle.record.proofs.Arms.{every-operand}
 use Rattle.rows.specs.All.{everyCode}
 use Rattle.rows.specs.Row.{Face, Row}

@@ -1,4 +1,3 @@
 pub mod Plan
 pub mod Faced
-pub mod Value
 pub mod Slots

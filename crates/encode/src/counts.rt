@@ -1,8 +1,6 @@
 // How many bytes behind a code a name's number has, and what it must be below.
 ghost use mathlib.Core.Path.{_≡_};
 ghost use Prim.Native.Nat.{_≤_};
-ghost use Rattle.record.specs.Same.{fieldOf};
-ghost use Rattle.encode.specs.steps.Value.{isShort};
 ghost use Rattle.encode.specs.steps.Slots.{countOf, limitOf};
 use record::Operand;
 
@@ -56,37 +54,5 @@ pub(crate) fn slot_of(o: Operand) -> Slot
             limit: 16,
         },
         _ => Slot { count: 0, limit: 1 },
-    }
-}
-
-// A name has a displacement.
-pub(crate) fn is_short(o: Operand) -> bool
-    ensures { λ r. ⌜ r ≡ isShort (fieldOf o) ⌝ }
-{
-    match o {
-        Operand::Bit_R0
-        | Operand::Bit_R1
-        | Operand::Bit_R2
-        | Operand::Bit_R3
-        | Operand::Bit_A0
-        | Operand::Bit_A1
-        | Operand::Bit_Disp8_A0
-        | Operand::Bit_Disp8_A1
-        | Operand::Bit_Disp8_SB
-        | Operand::Bit_Disp8_FB
-        | Operand::Bit_Disp16_A0
-        | Operand::Bit_Disp16_A1
-        | Operand::Bit_Disp16_SB
-        | Operand::Bit_Abs16
-        | Operand::Disp8_A0
-        | Operand::Disp8_A1
-        | Operand::Disp8_SB
-        | Operand::Disp8_FB
-        | Operand::Disp8_SP
-        | Operand::Disp16_A0
-        | Operand::Disp16_A1
-        | Operand::Disp16_SB
-        | Operand::Abs16 => true,
-        _ => false,
     }
 }

@@ -15,7 +15,9 @@ use Rattle.record.specs.declared.Opcode.{Opcode}
 use Rattle.record.specs.declared.Operand.the-variants.{Nothing, «Disp8_SP»}
 use Rattle.record.specs.Numbers.{sizeNo, widthNo, operandNo}
 use Rattle.record.specs.declared.Key.{Key}
-use Rattle.record.specs.Same.{sameName, Field, nowhere, wide, short, early, fieldOf, baseOf}
+use Rattle.record.specs.declared.fields.Field.{Field}
+use Rattle.record.specs.declared.fields.Field.the-variants.{Nowhere as nowhere, Wide as wide, Short as short, Early as early}
+use Rattle.record.specs.Same.{sameName, fieldOf, baseOf}
 use Rattle.record.proofs.Apart.{opcodes-apart}
 use Rattle.rows.specs.Row.{disp, imm, imm20, Read, num, cond, stop, Row, Table}
 use Rattle.rows.specs.Codes.{condOf}

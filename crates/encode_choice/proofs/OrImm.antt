@@ -3,7 +3,9 @@
 use mathlib.Core.Path.{_≡_, refl, sym, ap, _∙_}
 use mathlib.Core.Bool.{Bool}
 use Rattle.laws.specs.Choice.{pick}
-use Rattle.record.specs.Same.{Field, nowhere, wide, short, early, fieldOf}
+use Rattle.record.specs.declared.fields.Field.{Field}
+use Rattle.record.specs.declared.fields.Field.the-variants.{Nowhere as nowhere, Wide as wide, Short as short, Early as early}
+use Rattle.record.specs.Same.{fieldOf}
 use Rattle.encode_choice.specs.declared.Asked.{Asked}
 use Rattle.encode_rules.specs.steps.Direct.{Choice}
 use Rattle.encode_choice.specs.steps.Choose.{onField, orImm}

@@ -8,7 +8,9 @@ use native.Mathlib.Omega.{arith}
 use Rattle.record.specs.declared.Record.{Record}
 use Rattle.record.specs.declared.Operand.the-variants.{«Disp8_SP»}
 use Rattle.record.specs.declared.Key.{Key}
-use Rattle.record.specs.Same.{sameName, Field, nowhere, wide, short, early, fieldOf, shared, field0, field1, valueOf, key}
+use Rattle.record.specs.declared.fields.Field.{Field}
+use Rattle.record.specs.declared.fields.Field.the-variants.{Nowhere as nowhere, Wide as wide, Short as short, Early as early}
+use Rattle.record.specs.Same.{sameName, fieldOf, shared, field0, field1, valueOf, key}
 use Rattle.rows.specs.Row.{disp, imm, imm20, Read, num, cond, stop, Face}
 use Rattle.encode_rules.specs.steps.Digits.{digits}
 use Rattle.encode_rules.specs.steps.Search.{condByte, disps, imms, nth, spell, aim, other, shorts, wides, shortsOf, widesOf, wideFor, dispFor, firstFor}

@@ -11,7 +11,9 @@ use Rattle.record.specs.declared.Opcode.{Opcode}
 use Rattle.record.specs.declared.Operand.the-variants.{Nothing, «Disp8_SP»}
 use Rattle.record.specs.Numbers.{opcodeNo, sizeNo, widthNo, operandNo}
 use Rattle.record.specs.declared.Key.{Key}
-use Rattle.record.specs.Same.{sameName, Field, nowhere, wide, short, early, fieldOf, shared, field0, field1, valueOf, baseOf, key}
+use Rattle.record.specs.declared.fields.Field.{Field}
+use Rattle.record.specs.declared.fields.Field.the-variants.{Nowhere as nowhere, Wide as wide, Short as short, Early as early}
+use Rattle.record.specs.Same.{sameName, fieldOf, shared, field0, field1, valueOf, baseOf, key}
 use Rattle.record.proofs.Apart.{opcodes-apart, sizes-apart, widths-apart, operands-apart}
 use Rattle.rows.specs.Row.{Row}
 use Rattle.rows.specs.Run.{begun}

@@ -1,4 +1,4 @@
--- What is left of a list from a place on, as code lends it, and the list once that was given back.
+-- What is left of a list from a place on, as code passes it on, and the list once that was given back.
 -- Assumes nothing.
 use Prim.Native.Nat.{ℕ, _-_, _≤_}
 use mathlib.Core.Path.{_≡_, sym, ap, _∙_}

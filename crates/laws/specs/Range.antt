@@ -16,7 +16,7 @@ unfoldable pub total : (ℕ → ℕ) → ℕ → ℕ
 total f zero = 0
 total f (suc n) = f n + total f n
 
--- what is said of every number below a bound, as one tuple
+-- what is stated of every number below a bound, as one tuple
 abbrev pub Each : (ℕ → Type 0) → ℕ → Type 0
 Each P zero = Unit {0}
 Each P (suc n) = Each P n × P n

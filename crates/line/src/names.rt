@@ -1,8 +1,7 @@
 // Names as the listing prints them, a space before each. A text is packed: its first character in the lowest byte of a number.
 ghost use mathlib.Core.Path.{_≡_};
-ghost use Rattle.record.specs.Same.{fieldOf};
 ghost use Rattle.line.specs.Line.{opcodeText, shown, digitsOf};
-ghost use Rattle.line.specs.steps.Packed.{pack, firstEight, afterEight, kept};
+ghost use Rattle.line.specs.steps.Packed.{pack, firstEight, afterEight};
 use record::Opcode;
 use record::Operand;
 
@@ -111,76 +110,69 @@ pub fn opcode_word(x: Opcode) -> u64
     }
 }
 
-// Where an operand's number is: nowhere, in `imm_wide`, or in `dispabs` or `first`.
-pub enum Field {
-    Nowhere,
-    Wide,
-    Short,
-}
-
-// Eight characters, the others, how many digits of the name's number are shown, and where that number is.
-pub struct Shown(pub u64, pub u64, pub u8, pub Field);
+// Eight characters, the others, and how many digits of the name's number are shown.
+pub struct Shown(pub u64, pub u64, pub u8);
 
 pub fn operand_shown(x: Operand) -> Shown
-    ensures { λ r. ⌜ (r .0 ≡ pack (firstEight (shown x))) × (r .1 ≡ pack (afterEight (shown x))) × (r .2 ≡ digitsOf x) × (kept (r .3) ≡ fieldOf x) ⌝ }
+    ensures { λ r. ⌜ (r .0 ≡ pack (firstEight (shown x))) × (r .1 ≡ pack (afterEight (shown x))) × (r .2 ≡ digitsOf x) ⌝ }
 {
     match x {
-        Operand::Nothing => Shown(0, 0, 0, Field::Nowhere),
-        Operand::Imm4 => Shown(0x346D6D4920, 0, 1, Field::Wide),
-        Operand::Imm8 => Shown(0x386D6D4920, 0, 2, Field::Wide),
-        Operand::Imm16 => Shown(0x36316D6D4920, 0, 4, Field::Wide),
-        Operand::R0L => Shown(0x4C305220, 0, 0, Field::Nowhere),
-        Operand::R0H => Shown(0x48305220, 0, 0, Field::Nowhere),
-        Operand::R1L => Shown(0x4C315220, 0, 0, Field::Nowhere),
-        Operand::R1H => Shown(0x48315220, 0, 0, Field::Nowhere),
-        Operand::R0 => Shown(0x305220, 0, 0, Field::Nowhere),
-        Operand::R1 => Shown(0x315220, 0, 0, Field::Nowhere),
-        Operand::R2 => Shown(0x325220, 0, 0, Field::Nowhere),
-        Operand::R3 => Shown(0x335220, 0, 0, Field::Nowhere),
-        Operand::R2R0 => Shown(0x3052325220, 0, 0, Field::Nowhere),
-        Operand::R3R1 => Shown(0x3152335220, 0, 0, Field::Nowhere),
-        Operand::A0 => Shown(0x304120, 0, 0, Field::Nowhere),
-        Operand::A1 => Shown(0x314120, 0, 0, Field::Nowhere),
-        Operand::A1A0 => Shown(0x3041314120, 0, 0, Field::Nowhere),
-        Operand::Bit_R0 => Shown(0x30525F74694220, 0, 2, Field::Short),
-        Operand::Bit_R1 => Shown(0x31525F74694220, 0, 2, Field::Short),
-        Operand::Bit_R2 => Shown(0x32525F74694220, 0, 2, Field::Short),
-        Operand::Bit_R3 => Shown(0x33525F74694220, 0, 2, Field::Short),
-        Operand::Bit_A0 => Shown(0x30415F74694220, 0, 2, Field::Short),
-        Operand::Bit_A1 => Shown(0x31415F74694220, 0, 2, Field::Short),
-        Operand::Bit_Deref_A0 => Shown(0x7265445F74694220, 0x30415F6665, 0, Field::Nowhere),
-        Operand::Bit_Deref_A1 => Shown(0x7265445F74694220, 0x31415F6665, 0, Field::Nowhere),
-        Operand::Bit_Disp8_A0 => Shown(0x7369445F74694220, 0x30415F3870, 2, Field::Short),
-        Operand::Bit_Disp8_A1 => Shown(0x7369445F74694220, 0x31415F3870, 2, Field::Short),
-        Operand::Bit_Disp8_SB => Shown(0x7369445F74694220, 0x42535F3870, 2, Field::Short),
-        Operand::Bit_Disp8_FB => Shown(0x7369445F74694220, 0x42465F3870, 2, Field::Short),
-        Operand::Bit_Disp16_A0 => Shown(0x7369445F74694220, 0x30415F363170, 4, Field::Short),
-        Operand::Bit_Disp16_A1 => Shown(0x7369445F74694220, 0x31415F363170, 4, Field::Short),
-        Operand::Bit_Disp16_SB => Shown(0x7369445F74694220, 0x42535F363170, 4, Field::Short),
-        Operand::Bit_Abs16 => Shown(0x7362415F74694220, 0x3631, 4, Field::Short),
-        Operand::Disp8_A0 => Shown(0x415F387073694420, 0x30, 2, Field::Short),
-        Operand::Disp8_A1 => Shown(0x415F387073694420, 0x31, 2, Field::Short),
-        Operand::Disp8_SB => Shown(0x535F387073694420, 0x42, 2, Field::Short),
-        Operand::Disp8_FB => Shown(0x465F387073694420, 0x42, 2, Field::Short),
-        Operand::Disp8_SP => Shown(0x535F387073694420, 0x50, 2, Field::Short),
-        Operand::Disp16_A0 => Shown(0x5F36317073694420, 0x3041, 4, Field::Short),
-        Operand::Disp16_A1 => Shown(0x5F36317073694420, 0x3141, 4, Field::Short),
-        Operand::Disp16_SB => Shown(0x5F36317073694420, 0x4253, 4, Field::Short),
-        Operand::Disp20_A0 => Shown(0x5F30327073694420, 0x3041, 5, Field::Wide),
-        Operand::Disp20_A1 => Shown(0x5F30327073694420, 0x3141, 5, Field::Wide),
-        Operand::Deref_A0 => Shown(0x415F666572654420, 0x30, 0, Field::Nowhere),
-        Operand::Deref_A1 => Shown(0x415F666572654420, 0x31, 0, Field::Nowhere),
-        Operand::Deref_A1A0 => Shown(0x415F666572654420, 0x304131, 0, Field::Nowhere),
-        Operand::Abs16 => Shown(0x363173624120, 0, 4, Field::Short),
-        Operand::Abs20 => Shown(0x303273624120, 0, 5, Field::Wide),
-        Operand::Disp8 => Shown(0x387073694420, 0, 2, Field::Wide),
-        Operand::RegList => Shown(0x7473694C67655220, 0, 2, Field::Wide),
-        Operand::INTBL => Shown(0x4C42544E4920, 0, 0, Field::Nowhere),
-        Operand::INTBH => Shown(0x4842544E4920, 0, 0, Field::Nowhere),
-        Operand::FLG => Shown(0x474C4620, 0, 0, Field::Nowhere),
-        Operand::ISP => Shown(0x50534920, 0, 0, Field::Nowhere),
-        Operand::SP => Shown(0x505320, 0, 0, Field::Nowhere),
-        Operand::SB => Shown(0x425320, 0, 0, Field::Nowhere),
-        Operand::FB => Shown(0x424620, 0, 0, Field::Nowhere),
+        Operand::Nothing => Shown(0, 0, 0),
+        Operand::Imm4 => Shown(0x346D6D4920, 0, 1),
+        Operand::Imm8 => Shown(0x386D6D4920, 0, 2),
+        Operand::Imm16 => Shown(0x36316D6D4920, 0, 4),
+        Operand::R0L => Shown(0x4C305220, 0, 0),
+        Operand::R0H => Shown(0x48305220, 0, 0),
+        Operand::R1L => Shown(0x4C315220, 0, 0),
+        Operand::R1H => Shown(0x48315220, 0, 0),
+        Operand::R0 => Shown(0x305220, 0, 0),
+        Operand::R1 => Shown(0x315220, 0, 0),
+        Operand::R2 => Shown(0x325220, 0, 0),
+        Operand::R3 => Shown(0x335220, 0, 0),
+        Operand::R2R0 => Shown(0x3052325220, 0, 0),
+        Operand::R3R1 => Shown(0x3152335220, 0, 0),
+        Operand::A0 => Shown(0x304120, 0, 0),
+        Operand::A1 => Shown(0x314120, 0, 0),
+        Operand::A1A0 => Shown(0x3041314120, 0, 0),
+        Operand::Bit_R0 => Shown(0x30525F74694220, 0, 2),
+        Operand::Bit_R1 => Shown(0x31525F74694220, 0, 2),
+        Operand::Bit_R2 => Shown(0x32525F74694220, 0, 2),
+        Operand::Bit_R3 => Shown(0x33525F74694220, 0, 2),
+        Operand::Bit_A0 => Shown(0x30415F74694220, 0, 2),
+        Operand::Bit_A1 => Shown(0x31415F74694220, 0, 2),
+        Operand::Bit_Deref_A0 => Shown(0x7265445F74694220, 0x30415F6665, 0),
+        Operand::Bit_Deref_A1 => Shown(0x7265445F74694220, 0x31415F6665, 0),
+        Operand::Bit_Disp8_A0 => Shown(0x7369445F74694220, 0x30415F3870, 2),
+        Operand::Bit_Disp8_A1 => Shown(0x7369445F74694220, 0x31415F3870, 2),
+        Operand::Bit_Disp8_SB => Shown(0x7369445F74694220, 0x42535F3870, 2),
+        Operand::Bit_Disp8_FB => Shown(0x7369445F74694220, 0x42465F3870, 2),
+        Operand::Bit_Disp16_A0 => Shown(0x7369445F74694220, 0x30415F363170, 4),
+        Operand::Bit_Disp16_A1 => Shown(0x7369445F74694220, 0x31415F363170, 4),
+        Operand::Bit_Disp16_SB => Shown(0x7369445F74694220, 0x42535F363170, 4),
+        Operand::Bit_Abs16 => Shown(0x7362415F74694220, 0x3631, 4),
+        Operand::Disp8_A0 => Shown(0x415F387073694420, 0x30, 2),
+        Operand::Disp8_A1 => Shown(0x415F387073694420, 0x31, 2),
+        Operand::Disp8_SB => Shown(0x535F387073694420, 0x42, 2),
+        Operand::Disp8_FB => Shown(0x465F387073694420, 0x42, 2),
+        Operand::Disp8_SP => Shown(0x535F387073694420, 0x50, 2),
+        Operand::Disp16_A0 => Shown(0x5F36317073694420, 0x3041, 4),
+        Operand::Disp16_A1 => Shown(0x5F36317073694420, 0x3141, 4),
+        Operand::Disp16_SB => Shown(0x5F36317073694420, 0x4253, 4),
+        Operand::Disp20_A0 => Shown(0x5F30327073694420, 0x3041, 5),
+        Operand::Disp20_A1 => Shown(0x5F30327073694420, 0x3141, 5),
+        Operand::Deref_A0 => Shown(0x415F666572654420, 0x30, 0),
+        Operand::Deref_A1 => Shown(0x415F666572654420, 0x31, 0),
+        Operand::Deref_A1A0 => Shown(0x415F666572654420, 0x304131, 0),
+        Operand::Abs16 => Shown(0x363173624120, 0, 4),
+        Operand::Abs20 => Shown(0x303273624120, 0, 5),
+        Operand::Disp8 => Shown(0x387073694420, 0, 2),
+        Operand::RegList => Shown(0x7473694C67655220, 0, 2),
+        Operand::INTBL => Shown(0x4C42544E4920, 0, 0),
+        Operand::INTBH => Shown(0x4842544E4920, 0, 0),
+        Operand::FLG => Shown(0x474C4620, 0, 0),
+        Operand::ISP => Shown(0x50534920, 0, 0),
+        Operand::SP => Shown(0x505320, 0, 0),
+        Operand::SB => Shown(0x425320, 0, 0),
+        Operand::FB => Shown(0x424620, 0, 0),
     }
 }

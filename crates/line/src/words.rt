@@ -2,20 +2,14 @@
 ghost use mathlib.Core.Path.{_≡_};
 ghost use mathlib.Core.List.{_∷_, map};
 ghost use Prim.Native.Nat.{_<_, _≤_};
-ghost use Rattle.laws.specs.Choice.{pick};
 ghost use Rattle.line.specs.Characters.{digit, hex};
 ghost use Rattle.line.specs.Line.{widthText, sizeText, equals};
-ghost use Rattle.line.specs.steps.Packed.{pack, isShort, fieldNumber, placeText, lengthText, parts, endParts, refusedParts};
+ghost use Rattle.line.specs.steps.Packed.{pack, placeText, lengthText, parts, endParts, refusedParts};
 use crate::names;
-use crate::names::Field;
-use crate::names::Shown;
 use record::Record;
 use record::Size;
 use record::Width;
-use record::numbers;
-
-// The number of the name Disp8_SP.
-const DISP8_SP: u32 = 37;
+use record::fields;
 
 fn width_word(x: Width) -> u64
     ensures { λ r. ⌜ r ≡ pack (widthText x) ⌝ }
@@ -75,48 +69,6 @@ fn number_word(n: u8, v: u64) -> u64
     0x3D + 0x100 * digits(n, v)
 }
 
-fn is_short(f: Field) -> bool
-    ensures { λ r. ⌜ r ≡ isShort f ⌝ }
-{
-    match f {
-        Field::Nowhere => false,
-        Field::Wide => false,
-        Field::Short => true,
-    }
-}
-
-fn chosen(f: Field, wide: u64, short: u64) -> u64
-    ensures { λ r. ⌜ r ≡ fieldNumber f wide short ⌝ }
-{
-    match f {
-        Field::Nowhere => 0,
-        Field::Wide => wide,
-        Field::Short => short,
-    }
-}
-
-// Which of the two displacements is an operand's: `first` where both operands have one and `dispabs` is the other's.
-fn own(dispabs: u16, first: u16, both: bool, others: bool) -> u64
-    ensures { λ r. ⌜ r ≡ pick both (pick others first dispabs) dispabs ⌝ }
-{
-    if both {
-        if others {
-            return first as u64;
-        }
-        return dispabs as u64;
-    }
-    dispabs as u64
-}
-
-// The number that is shown behind a name.
-fn shown_number(x: Shown, wide: u64, short: u64) -> u64
-    requires { ⌜ x .2 ≤ 5 ⌝ }
-    ensures { λ r. ⌜ r ≡ pack (equals (x .2) (fieldNumber (x .3) wide short)) ⌝ }
-{
-    let field = x.3;
-    number_word(x.2, chosen(field, wide, short))
-}
-
 // The words of a line, behind two that are given.
 pub fn words_of(first: u64, second: u64, r: Record) -> [u64; 14]
     ensures { λ w. ⌜ w ≡ first ∷ second ∷ map pack (parts r) ⌝ }
@@ -127,12 +79,7 @@ pub fn words_of(first: u64, second: u64, r: Record) -> [u64; 14]
     let a = names::operand_shown(op0);
     let b = names::operand_shown(op1);
     let c = names::operand_shown(op2);
-    let wide = r.imm_wide as u64;
-    let field0 = a.3;
-    let field1 = b.3;
-    let on_stack = numbers::operand_number(op0) == DISP8_SP;
-    let short0 = own(r.dispabs, r.first, is_short(field1), !on_stack);
-    let short1 = own(r.dispabs, r.first, is_short(field0), on_stack);
+    let numbers = fields::numbers_of(r);
     let width = r.width;
     let opcode = r.opcode;
     let size = r.size;
@@ -144,13 +91,13 @@ pub fn words_of(first: u64, second: u64, r: Record) -> [u64; 14]
         size_word(size),
         a.0,
         a.1,
-        shown_number(a, wide, short0),
+        number_word(a.2, numbers.number0 as u64),
         b.0,
         b.1,
-        shown_number(b, wide, short1),
+        number_word(b.2, numbers.number1 as u64),
         c.0,
         c.1,
-        shown_number(c, wide, r.dispabs as u64),
+        number_word(c.2, numbers.number2 as u64),
     ]
 }
 

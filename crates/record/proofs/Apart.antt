@@ -15,7 +15,7 @@ pub use Rattle.record.specs.Names.{opcodes, opcodeAt, sizeAt, widthAt, o
 
 -- a number that a name can be found by tells it
 module _ {A : Type 0} (no : A → ℕ) (name : ℕ → A) (found : (a : A) → name (no a) ≡ a) where
-  told : (a b : A) → no a ≡ no b → a ≡ b
+  pub told : (a b : A) → no a ≡ no b → a ≡ b
   told a b e = sym (found a) ∙ ap name e ∙ found b
 
 pub opcode-at : (o : Opcode) → opcodeAt (opcodeNo o) ≡ o

@@ -9,6 +9,9 @@ use Rattle.record.specs.declared.Key.{Key}
 use Rattle.record.specs.declared.Operand.{Operand}
 use Rattle.record.specs.declared.Operand.the-variants.{Imm4, Imm8, Imm16, RegList, Abs16, Abs20, Disp8, «Deref_A0», «Deref_A1», «Disp8_A0», «Disp8_A1», «Disp8_SB», «Disp8_FB», «Disp8_SP», «Disp16_A0», «Disp16_A1», «Disp16_SB», «Disp20_A0», «Disp20_A1», «Bit_R0», «Bit_R1», «Bit_R2», «Bit_R3», «Bit_A0», «Bit_A1», «Bit_Disp8_A0», «Bit_Disp8_A1», «Bit_Disp8_SB», «Bit_Disp8_FB», «Bit_Disp16_A0», «Bit_Disp16_A1», «Bit_Disp16_SB», «Bit_Abs16»}
 use Rattle.record.specs.Numbers.{operandNo}
+-- the field that holds an operand's number: none; imm_wide; dispabs; first
+use Rattle.record.specs.declared.fields.Field.{Field}
+use Rattle.record.specs.declared.fields.Field.the-variants.{Nowhere as nowhere, Wide as wide, Short as short, Early as early}
 use Rattle.laws.specs.Choice.{pick}
 
 unfoldable pub sameName : Operand → Operand → Bool
@@ -27,18 +30,20 @@ baseOf a =
     (pick (among («Deref_A1» ∷ «Disp8_A1» ∷ «Disp16_A1» ∷ []) a) «Disp16_A1»
     (pick (among («Disp8_SB» ∷ «Disp16_SB» ∷ []) a) «Disp16_SB» a))
 
--- the field that holds an operand's number: none; imm_wide; dispabs; first
-pub data Field : Type 0 where
-  nowhere wide short early : Field
+-- the names whose number is in imm_wide, and those that need dispabs
+abbrev pub wideNames : List Operand
+wideNames = Imm4 ∷ Imm8 ∷ Imm16 ∷ Abs20 ∷ «Disp20_A0» ∷ «Disp20_A1» ∷ Disp8 ∷ RegList ∷ []
+
+abbrev pub shortNames : List Operand
+shortNames =
+    «Disp8_A0» ∷ «Disp8_A1» ∷ «Disp8_SB» ∷ «Disp8_FB» ∷ «Disp8_SP» ∷ «Disp16_A0» ∷ «Disp16_A1» ∷ «Disp16_SB» ∷ Abs16
+    ∷ «Bit_R0» ∷ «Bit_R1» ∷ «Bit_R2» ∷ «Bit_R3» ∷ «Bit_A0» ∷ «Bit_A1» ∷ «Bit_Disp8_A0» ∷ «Bit_Disp8_A1» ∷ «Bit_Disp8_SB» ∷ «Bit_Disp8_FB»
+    ∷ «Bit_Disp16_A0» ∷ «Bit_Disp16_A1» ∷ «Bit_Disp16_SB» ∷ «Bit_Abs16» ∷ []
 
 -- the field that an operand's name asks for
 unfoldable pub fieldOf : Operand → Field
 unfolding among
-fieldOf a =
-    pick (among (Imm4 ∷ Imm8 ∷ Imm16 ∷ Abs20 ∷ «Disp20_A0» ∷ «Disp20_A1» ∷ Disp8 ∷ RegList ∷ []) a) wide
-    (pick (among («Disp8_A0» ∷ «Disp8_A1» ∷ «Disp8_SB» ∷ «Disp8_FB» ∷ «Disp8_SP» ∷ «Disp16_A0» ∷ «Disp16_A1» ∷ «Disp16_SB» ∷ Abs16
-    ∷ «Bit_R0» ∷ «Bit_R1» ∷ «Bit_R2» ∷ «Bit_R3» ∷ «Bit_A0» ∷ «Bit_A1» ∷ «Bit_Disp8_A0» ∷ «Bit_Disp8_A1» ∷ «Bit_Disp8_SB» ∷ «Bit_Disp8_FB»
-    ∷ «Bit_Disp16_A0» ∷ «Bit_Disp16_A1» ∷ «Bit_Disp16_SB» ∷ «Bit_Abs16» ∷ []) a) short nowhere)
+fieldOf a = pick (among wideNames a) wide (pick (among shortNames a) short nowhere)
 
 -- "Where two operands need dispabs": its own field, the other operand's, and whether dispabs is then the other's
 abbrev pub shared : Field → Field → Bool → Field

@@ -3,6 +3,7 @@
 
 pub mod numbers; // the number of each name
 pub mod names; // the name of each number
+pub mod fields; // the number of each operand
 pub mod refusal; // what a function returns
 
 pub enum Opcode {

@@ -14,7 +14,9 @@ use Rattle.record.specs.declared.Opcode.{Opcode}
 use Rattle.record.specs.declared.Operand.{Operand}
 use Rattle.record.specs.declared.Operand.the-variants.{Nothing}
 use Rattle.record.specs.declared.Record.{Record}
-use Rattle.record.specs.Same.{sameName, Field, nowhere, wide, short, early, field0, field1, valueOf}
+use Rattle.record.specs.declared.fields.Field.{Field}
+use Rattle.record.specs.declared.fields.Field.the-variants.{Nowhere as nowhere, Wide as wide, Short as short, Early as early}
+use Rattle.record.specs.Same.{sameName, field0, field1, valueOf}
 use Rattle.record.proofs.Apart.{operands-apart}
 use Rattle.manual.specs.Bits as bits
 use Rattle.manual.specs.Bits.{conditionAt}

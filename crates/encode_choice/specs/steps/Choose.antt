@@ -17,7 +17,9 @@ use Rattle.record.specs.declared.Operand.the-variants.{Nothing, Imm4, R0L, R0, 
 use Rattle.record.specs.declared.Operand.the-variants.{«Disp8_A1», «Disp8_SB», «Disp8_FB», «Disp8_SP», «Disp16_A0», «Disp16_A1», «Disp16_SB», «Disp20_A0», «Disp20_A1», SP}
 use Rattle.record.specs.Numbers.{opcodeNo}
 use Rattle.record.specs.declared.Key.{Key}
-use Rattle.record.specs.Same.{sameName, Field, nowhere, wide, short, early, fieldOf, key}
+use Rattle.record.specs.declared.fields.Field.{Field}
+use Rattle.record.specs.declared.fields.Field.the-variants.{Nowhere as nowhere, Wide as wide, Short as short, Early as early}
+use Rattle.record.specs.Same.{sameName, fieldOf, key}
 use Rattle.rows.specs.Codes.{byteNames, wordNames}
 use Rattle.rows.specs.Rows.{document01}
 use Rattle.encode_choice.specs.declared.Asked.{Asked}

@@ -12,7 +12,9 @@ use Rattle.record.specs.declared.Operand.{Operand}
 use Rattle.record.specs.declared.Operand.the-variants.{Nothing, Imm4, Imm8}
 use Rattle.record.specs.Numbers.{widthNo}
 use Rattle.record.specs.declared.Key.{Key}
-use Rattle.record.specs.Same.{sameName, baseOf, Field, nowhere, wide, short, early, fieldOf}
+use Rattle.record.specs.declared.fields.Field.{Field}
+use Rattle.record.specs.declared.fields.Field.the-variants.{Nowhere as nowhere, Wide as wide, Short as short, Early as early}
+use Rattle.record.specs.Same.{sameName, baseOf, fieldOf}
 use Rattle.rows.specs.Row.{disp, imm, imm20, Read, num, cond, stop, Condition, named, unnamed, Face, Row, Table}
 use Rattle.rows.specs.Codes.{condOf}
 use Rattle.rows.specs.Run.{twentyBits}

@@ -1,6 +1,7 @@
 -- A choice as the code's two numbers: no choice is 0, 0, which is no code of the part.
 use mathlib.Core.Bool.{Bool, true, false}
-use Rattle.record.specs.Same.{Field, nowhere, wide, short, early}
+use Rattle.record.specs.declared.fields.Field.{Field}
+use Rattle.record.specs.declared.fields.Field.the-variants.{Nowhere as nowhere, Wide as wide, Short as short, Early as early}
 use Rattle.encode_rules.specs.steps.Direct.{Choice, code, nothing}
 use Rattle.encode_choice.specs.declared.Code.{Code}
 

@@ -9,7 +9,9 @@ use Rattle.record.specs.declared.Opcode.{Opcode}
 use Rattle.record.specs.declared.Operand.the-variants.{Nothing}
 use Rattle.record.specs.Numbers.{opcodeNo, sizeNo, widthNo, operandNo}
 use Rattle.record.specs.declared.Key.{Key}
-use Rattle.record.specs.Same.{Field, nowhere, wide, short, early, fieldOf, baseOf}
+use Rattle.record.specs.declared.fields.Field.{Field}
+use Rattle.record.specs.declared.fields.Field.the-variants.{Nowhere as nowhere, Wide as wide, Short as short, Early as early}
+use Rattle.record.specs.Same.{fieldOf, baseOf}
 use Rattle.rows.specs.Row.{disp, imm, imm20, Read, num, cond, stop, Row}
 use Rattle.rows.specs.Codes.{condOf}
 use Rattle.rows.specs.Run.{twentyBits}

@@ -11,7 +11,9 @@ use Rattle.record.specs.declared.Opcode.{Opcode}
 use Rattle.record.specs.declared.Operand.the-variants.{Nothing, «Disp8_SP»}
 use Rattle.record.specs.Numbers.{opcodeNo, sizeNo, widthNo, operandNo}
 use Rattle.record.specs.declared.Key.{Key}
-use Rattle.record.specs.Same.{sameName, Field, nowhere, wide, short, early, fieldOf, key}
+use Rattle.record.specs.declared.fields.Field.{Field}
+use Rattle.record.specs.declared.fields.Field.the-variants.{Nowhere as nowhere, Wide as wide, Short as short, Early as early}
+use Rattle.record.specs.Same.{sameName, fieldOf, key}
 use Rattle.rows.specs.Row.{disp, imm, imm20, Read, num, cond, stop, Condition, named, unnamed, Face, Row, Table}
 use Rattle.rows.specs.Codes.{condOf}
 use Rattle.rows.specs.Fate.{fate}

@@ -1,15 +1,11 @@
 -- How the code holds a text: up to eight characters in a word, the first in its lowest byte, zeros behind them.
 use Prim.Native.Nat.{ℕ, zero, suc, _+_, _*_, _/_, _%_}
-use mathlib.Core.Bool.{Bool, true, false}
 use mathlib.Core.List.{List, [], _∷_, _++_}
 use lib.ListN.{take, drop}
 use lib.Dec.{eqb}
 use Rattle.laws.specs.Choice.{pick}
 use Rattle.record.specs.declared.Record.{Record}
 use Rattle.record.specs.Same.{key}
-use Rattle.record.specs.Same as same
-use Rattle.line.specs.declared.names.Field.{Field}
-use Rattle.line.specs.declared.names.Field.the-variants.{Nowhere, Wide, Short}
 use Rattle.line.specs.Characters.{spelled, hex}
 use Rattle.line.specs.Line.{widthText, opcodeText, sizeText, shown, numberText}
 
@@ -36,22 +32,6 @@ firstEight s = take 8 s
 
 abbrev pub afterEight : List ℕ → List ℕ
 afterEight s = drop 8 s
-
--- where the code says that an operand's number is
-abbrev pub kept : Field → same.Field
-kept Nowhere = same.nowhere
-kept Wide = same.wide
-kept Short = same.short
-
-abbrev pub fieldNumber : Field → ℕ → ℕ → ℕ
-fieldNumber Nowhere w s = 0
-fieldNumber Wide w s = w
-fieldNumber Short w s = s
-
-abbrev pub isShort : Field → Bool
-isShort Nowhere = false
-isShort Wide = false
-isShort Short = true
 
 -- what stands before the width
 abbrev pub placeText : ℕ → List ℕ

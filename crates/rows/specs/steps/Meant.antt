@@ -5,7 +5,9 @@ use lib.Dec.{T}
 use Rattle.laws.specs.Choice.{pick}
 use Rattle.record.specs.declared.Operand.{Operand}
 use Rattle.record.specs.declared.Operand.the-variants.{Nothing}
-use Rattle.record.specs.Same.{sameName, Field, nowhere, wide, short, early, fieldOf, field0, field1}
+use Rattle.record.specs.declared.fields.Field.{Field}
+use Rattle.record.specs.declared.fields.Field.the-variants.{Nowhere as nowhere, Wide as wide, Short as short, Early as early}
+use Rattle.record.specs.Same.{sameName, fieldOf, field0, field1}
 use Rattle.manual.specs.Meaning.{Suffix, Spot, nothing, plain, behind, within, Meaning}
 use Rattle.rows.specs.Row.{Row}
 use Rattle.rows.specs.Spans.{Span, Source, code, read, spansOf}

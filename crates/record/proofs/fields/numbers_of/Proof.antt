@@ -1,0 +1,33 @@
+-- `record::fields::numbers_of` meets its contract.
+-- Assumes nothing.
+use mathlib.Core.Path.{_≡_, refl, ap, _∙_}
+use mathlib.Core.Bool.{Bool, true, false, not}
+use borrow.Author.Needs.{needs}
+use Rattle.laws.specs.Choice.{pick}
+use Rattle.record.specs.declared.Operand.the-variants.{«Disp8_SP»}
+use Rattle.record.specs.Same.{sameName, shared, valueOf}
+use Rattle.record.proofs.fields.numbers_of.Statement.{statement}
+use Rattle.record.proofs.fields.numbers_of.Tie as tie
+
+flipped : (b : Bool) → not b ≡ pick b false true
+flipped true = refl
+flipped false = refl
+
+returns : tie.Need-returns
+returns c =
+    let second = c .before .before in
+    let first = second .before .before in
+    let tests = first .before .before in
+    let r = tests .before .before .before .args .r in
+    let own0 = tests .before .before .field-of .ensures in
+    let own1 = tests .before .field-of2 .ensures in
+    let on-stack = tests .same-name .ensures in
+    let field0 = first .before .shared-field .ensures ∙ (λ j. shared (own0 j) (own1 j) ((ap not on-stack ∙ flipped (sameName (r .op0) «Disp8_SP»)) j)) in
+    let field1 = second .before .shared-field2 .ensures ∙ (λ j. shared (own1 j) (own0 j) (on-stack j)) in (
+      first .value-of .ensures ∙ ap (λ f. valueOf f r) field0,
+      second .value-of2 .ensures ∙ ap (λ f. valueOf f r) field1,
+      c .value-of3 .ensures ∙ ap (λ f. valueOf f r) (c .before .field-of3 .ensures),
+    )
+
+pub numbers-of-spec : {M : Type 1} → statement M
+numbers-of-spec = tie.close (tie.spec (λ c κs. search needs) (λ c κs. search needs) (λ c κs. search needs) (λ c κs. search needs) (λ c κs. search needs) (λ c κs. search needs) (λ c κs. search needs) (λ c κs. search needs) (λ c κs. search needs) returns)
