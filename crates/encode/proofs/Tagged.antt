@@ -13,7 +13,9 @@ use Rattle.record.specs.declared.Key.{Key}
 use Rattle.record.specs.declared.Opcode.{Opcode}
 use Rattle.record.specs.declared.Operand.the-variants.{«Disp8_SP»}
 use Rattle.record.specs.declared.Record.{Record}
-use Rattle.record.specs.Same.{sameName, Field, nowhere, wide, short, early, fieldOf}
+use Rattle.record.specs.declared.fields.Field.{Field}
+use Rattle.record.specs.declared.fields.Field.the-variants.{Nowhere as nowhere, Wide as wide, Short as short, Early as early}
+use Rattle.record.specs.Same.{sameName, fieldOf}
 use Rattle.rows.specs.Codes.{condOf}
 use Rattle.rows.specs.Row.{Num, disp, imm, imm20, Read, num, cond, stop, Face}
 use Rattle.rows.specs.Run.{twentyBits}
