@@ -5,6 +5,7 @@ pub mod Chosen
 pub mod Encoded
 pub mod Bench
 pub mod Whole
-pub mod Placed
+pub mod Lookups
 pub mod OrImm
 pub mod SetBits
+pub mod Unchosen

@@ -1,7 +1,7 @@
--- Sets of names as numbers: what a lookup returns is its form's, and the sets' bits are size and names.
+-- Sets of names as numbers: the sets' bits are size and names.
 -- Assumes nothing.
 use Prim.Native.Nat.{ℕ}
-use mathlib.Core.Path.{_≡_, sym, ap, ap₂, _∙_}
+use mathlib.Core.Path.{_≡_, ap₂, _∙_}
 use mathlib.Core.Bool.{Bool}
 use mathlib.Core.List.{List}
 use lib.Dec.{T, eqb}
@@ -19,17 +19,9 @@ use Rattle.record.specs.Same.{sameName, among}
 use Rattle.record.proofs.Apart.{opcodes, operands}
 use Rattle.record.proofs.Arms.{bit, bits-apart, every-opcode, every-operand}
 use Rattle.encode_choice.specs.declared.Asked.{Asked}
-use Rattle.encode_choice.specs.declared.name_sets.Form.{Form}
 use Rattle.encode_choice.specs.steps.Forms.{formOf, names, sizeFor}
 use Rattle.encode_choice.specs.steps.NameSet.{bitSet, first, second, sizeBit, hasBit, allIn}
 use Rattle.encode_rules.proofs.Bools.{so}
-
--- an arm of a lookup is told its name
-pub form-told : {o p : Opcode} → o ≡ p → formOf p ≡ formOf o
-form-told e = ap formOf (sym e)
-
-pub sets-told : (w : Width) {f g : Form} → f ≡ g → (first g w ≡ first f w) × (second g w ≡ second f w)
-sets-told w e = (ap (λ f. first f w) (sym e), ap (λ f. second f w) (sym e))
 
 -- a test of every opcode's set at every name
 abbrev Names : (Opcode → ℕ) → (Opcode → List Operand) → Type 0

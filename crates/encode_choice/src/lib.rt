@@ -1,12 +1,11 @@
 // The direct choice of a code for what a record says: one clause an opcode.
 pub mod names; // what a name is, by its number
-mod codes; // the code of a name in each list
 pub mod asks; // what the choice asks of a key
 mod shapes; // codes that several opcodes have in common
 mod single; // codes that one opcode has
 pub mod forms; // which size and names go with an opcode
 mod sets; // names as bits
-pub mod name_sets; // the sets of each form
+pub mod name_sets; // the code of each name, the form of each opcode, the sets of each form
 
 ghost use mathlib.Core.Path.{_≡_};
 ghost use Rattle.encode_choice.specs.steps.Choose as choice;
@@ -71,7 +70,7 @@ fn choose_by(o: Opcode, q: Asked) -> Code
         Opcode::CMP => shapes::binary(0x76, 8, q),
         Opcode::DADC => shapes::decimal(2, q),
         Opcode::DADD => shapes::decimal(0, q),
-        Opcode::DIV => single::div(q),
+        Opcode::DIV => shapes::imm_or_unary(0xE1, 0x76, 0xD, q),
         Opcode::DIVU => shapes::only(0x7C, 0xE0, q),
         Opcode::DIVX => shapes::only(0x7C, 0xE3, q),
         Opcode::DSBB => shapes::decimal(3, q),
@@ -103,7 +102,7 @@ fn choose_by(o: Opcode, q: Asked) -> Code
         Opcode::OR => shapes::binary(0x76, 3, q),
         Opcode::POP => shapes::unary(0x74, 0xD, q),
         Opcode::POPC => single::control(3, q),
-        Opcode::PUSH => single::push(q),
+        Opcode::PUSH => shapes::imm_or_unary(0xE2, 0x74, 4, q),
         Opcode::PUSHA => single::pusha(q),
         Opcode::PUSHC => single::control(2, q),
         Opcode::RMPA => shapes::only(0x7C, 0xF1, q),

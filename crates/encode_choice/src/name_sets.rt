@@ -1,10 +1,14 @@
-// Made by scripts/tables/make-name-sets from crates/encode_choice/specs/steps/Forms.antt:
-// the form of each opcode, and by width the sets of a form's names: those of operand 0 with the size, and those of operand 1.
+// Made by scripts/tables/make-name-sets from encode_choice/specs/steps/{Choose,Forms}.antt:
+// the code of each name, the form of each opcode, and by width the sets of a form's names: those of operand 0 with the size, and
+// those of operand 1.
 ghost use mathlib.Core.Path.{_≡_};
+ghost use Prim.Native.Nat.{_≤_};
 ghost use Rattle.record.specs.declared.Width.the-variants.{None, B, W};
+ghost use Rattle.encode_choice.specs.steps.Choose.{codeOf};
 ghost use Rattle.encode_choice.specs.steps.Forms.{formOf};
 ghost use Rattle.encode_choice.specs.steps.NameSet.{first, second};
 use record::Opcode;
+use record::Operand;
 
 pub enum Form {
     Unused,
@@ -43,6 +47,70 @@ pub enum Form {
 }
 
 pub struct Sets(pub u64, pub u64);
+
+pub(crate) fn code_of(o: Operand) -> u64
+    ensures { λ r. ⌜ (r ≡ codeOf o) × (r ≤ 15) ⌝ }
+{
+    match o {
+        Operand::Nothing => 2,
+        Operand::Imm4 => 8,
+        Operand::Imm8 => 8,
+        Operand::Imm16 => 8,
+        Operand::R0L => 0,
+        Operand::R0H => 1,
+        Operand::R1L => 2,
+        Operand::R1H => 3,
+        Operand::R0 => 0,
+        Operand::R1 => 1,
+        Operand::R2 => 2,
+        Operand::R3 => 3,
+        Operand::R2R0 => 0,
+        Operand::R3R1 => 1,
+        Operand::A0 => 4,
+        Operand::A1 => 5,
+        Operand::A1A0 => 4,
+        Operand::Bit_R0 => 0,
+        Operand::Bit_R1 => 1,
+        Operand::Bit_R2 => 2,
+        Operand::Bit_R3 => 3,
+        Operand::Bit_A0 => 4,
+        Operand::Bit_A1 => 5,
+        Operand::Bit_Deref_A0 => 6,
+        Operand::Bit_Deref_A1 => 7,
+        Operand::Bit_Disp8_A0 => 8,
+        Operand::Bit_Disp8_A1 => 9,
+        Operand::Bit_Disp8_SB => 10,
+        Operand::Bit_Disp8_FB => 11,
+        Operand::Bit_Disp16_A0 => 12,
+        Operand::Bit_Disp16_A1 => 13,
+        Operand::Bit_Disp16_SB => 14,
+        Operand::Bit_Abs16 => 15,
+        Operand::Disp8_A0 => 8,
+        Operand::Disp8_A1 => 9,
+        Operand::Disp8_SB => 10,
+        Operand::Disp8_FB => 11,
+        Operand::Disp8_SP => 8,
+        Operand::Disp16_A0 => 12,
+        Operand::Disp16_A1 => 13,
+        Operand::Disp16_SB => 14,
+        Operand::Disp20_A0 => 12,
+        Operand::Disp20_A1 => 13,
+        Operand::Deref_A0 => 6,
+        Operand::Deref_A1 => 7,
+        Operand::Deref_A1A0 => 8,
+        Operand::Abs16 => 15,
+        Operand::Abs20 => 8,
+        Operand::Disp8 => 8,
+        Operand::RegList => 8,
+        Operand::INTBL => 1,
+        Operand::INTBH => 2,
+        Operand::FLG => 3,
+        Operand::ISP => 4,
+        Operand::SP => 5,
+        Operand::SB => 6,
+        Operand::FB => 7,
+    }
+}
 
 pub(crate) fn form_of(o: Opcode) -> Form
     ensures { λ r. ⌜ r ≡ formOf o ⌝ }

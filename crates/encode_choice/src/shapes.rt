@@ -5,7 +5,7 @@ ghost use Rattle.encode_choice.specs.steps.Choose as choice;
 ghost use Rattle.encode_choice.specs.steps.Coded.{coded};
 use crate::Asked;
 use crate::Code;
-use crate::codes;
+use crate::name_sets;
 use crate::names;
 use record::Operand;
 use record::Size;
@@ -34,6 +34,17 @@ pub(crate) fn only(f: u8, b: u64, q: Asked) -> Code
     }
 }
 
+// The code of an operand in the low nibble.
+fn general(f: u8, h: u64, w: Width, o: Operand) -> Code
+    requires { ⌜ (f ≤ 0x7C) × (h ≤ 15) ⌝ }
+    ensures { λ r. ⌜ r ≡ coded (choice.general f h w o) ⌝ }
+{
+    Code {
+        first: f + word(w),
+        second: 16 * h + name_sets::code_of(o),
+    }
+}
+
 // Operand 0 is G(n).
 pub(crate) fn unary(f: u8, h: u64, q: Asked) -> Code
     requires { ⌜ (f ≤ 0x7C) × (h ≤ 15) ⌝ }
@@ -41,10 +52,7 @@ pub(crate) fn unary(f: u8, h: u64, q: Asked) -> Code
 {
     let width = q.width;
     let op0 = q.op0;
-    Code {
-        first: f + word(width),
-        second: 16 * h + codes::code_g(width, op0),
-    }
+    general(f, h, width, op0)
 }
 
 // Operand 1 is G(n).
@@ -54,10 +62,7 @@ pub(crate) fn binary(f: u8, h: u64, q: Asked) -> Code
 {
     let width = q.width;
     let op1 = q.op1;
-    Code {
-        first: f + word(width),
-        second: 16 * h + codes::code_g(width, op1),
-    }
+    general(f, h, width, op1)
 }
 
 // Operands 0 and 1 are G(h) and G(n).
@@ -65,12 +70,20 @@ pub(crate) fn twice(f: u8, q: Asked) -> Code
     requires { ⌜ f ≤ 0x7C ⌝ }
     ensures { λ r. ⌜ r ≡ coded (choice.twice f q) ⌝ }
 {
-    let width = q.width;
     let op0 = q.op0;
-    let op1 = q.op1;
-    Code {
-        first: f + word(width),
-        second: 16 * codes::code_g(width, op0) + codes::code_g(width, op1),
+    binary(f, name_sets::code_of(op0), q)
+}
+
+// An immediate alone, or operand 0 is G(n).
+pub(crate) fn imm_or_unary(b: u64, f: u8, h: u64, q: Asked) -> Code
+    requires { ⌜ (f ≤ 0x7C) × (h ≤ 15) ⌝ }
+    ensures { λ r. ⌜ r ≡ coded (choice.immOrUnary b f h q) ⌝ }
+{
+    let op0 = q.op0;
+    if names::is_wide(op0) {
+        only(0x7C, b, q)
+    } else {
+        unary(f, h, q)
     }
 }
 
@@ -82,7 +95,7 @@ pub(crate) fn bit(h: u64, q: Asked) -> Code
     let op0 = q.op0;
     Code {
         first: 0x7E,
-        second: 16 * h + codes::code_t(op0),
+        second: 16 * h + name_sets::code_of(op0),
     }
 }
 
@@ -125,13 +138,13 @@ pub(crate) fn half(h: u64, q: Asked) -> Code
     if names::same(op1, Operand::R0L) {
         return Code {
             first: 0x7C,
-            second: 16 * h + codes::code_g(Width::B, op0),
+            second: 16 * h + name_sets::code_of(op0),
         };
     }
     if names::same(op0, Operand::R0L) {
         return Code {
             first: 0x7C,
-            second: 16 * (8 + h) + codes::code_g(Width::B, op1),
+            second: 16 * (8 + h) + name_sets::code_of(op1),
         };
     }
     Code {
@@ -144,20 +157,13 @@ pub(crate) fn half(h: u64, q: Asked) -> Code
 pub(crate) fn far(o: Operand) -> u64
     ensures { λ r. ⌜ (r ≡ choice.far o) × (r ≤ 2) ⌝ }
 {
-    match o {
-        Operand::Abs20 => 0,
-        Operand::Disp20_A0 => 1,
-        _ => 2,
+    if names::same(o, Operand::Abs20) {
+        return 0;
     }
-}
-
-fn pair(o: Operand) -> u64
-    ensures { λ r. ⌜ (r ≡ choice.pair o) × (r ≤ 1) ⌝ }
-{
-    match o {
-        Operand::R2R0 => 0,
-        _ => 1,
+    if names::same(o, Operand::Disp20_A0) {
+        return 1;
     }
+    2
 }
 
 fn long(s: u64, q: Asked) -> Code
@@ -169,12 +175,12 @@ fn long(s: u64, q: Asked) -> Code
     if names::same(op0, Operand::Imm4) {
         return Code {
             first: 0xEB,
-            second: 16 * (8 + s + pair(op1)) + (q.number as u64),
+            second: 16 * (8 + s + name_sets::code_of(op1)) + (q.number as u64),
         };
     }
     Code {
         first: 0xEB,
-        second: 16 * (s + pair(op1)) + 1,
+        second: 16 * (s + name_sets::code_of(op1)) + 1,
     }
 }
 

@@ -1,17 +1,17 @@
 // Codes that one opcode has, or two.
 ghost use mathlib.Core.Path.{_≡_};
-ghost use Prim.Native.Nat.{_+_, _*_, _≤_};
-ghost use Rattle.record.specs.declared.Opcode.the-variants.{ADD, DIV, EXTS, INT, LDC, LDE, MOV, MOVA, PUSH, PUSHA, STC, STE};
+ghost use Prim.Native.Nat.{_≤_};
+ghost use Rattle.record.specs.declared.Opcode.the-variants.{ADD, EXTS, INT, LDC, LDE, MOV, MOVA, PUSHA, STC, STE};
 ghost use Rattle.encode_rules.specs.steps.Direct.{code};
-ghost use Rattle.encode_choice.specs.steps.Choose.{codeJ, codeK, chooseBy};
+ghost use Rattle.encode_choice.specs.steps.Choose as choice;
+ghost use Rattle.encode_choice.specs.steps.Choose.{chooseBy};
 ghost use Rattle.encode_choice.specs.steps.Coded.{coded};
 use crate::Asked;
 use crate::Code;
-use crate::codes;
+use crate::name_sets;
 use crate::names;
 use crate::shapes;
 use record::Operand;
-use record::Width;
 
 pub(crate) fn fixed(a: u8, b: u64) -> Code
     ensures { λ r. ⌜ r ≡ coded (code a b) ⌝ }
@@ -33,28 +33,6 @@ pub(crate) fn add(q: Asked) -> Code
     }
 }
 
-pub(crate) fn div(q: Asked) -> Code
-    ensures { λ r. ⌜ r ≡ coded (chooseBy DIV q) ⌝ }
-{
-    let op0 = q.op0;
-    if names::is_wide(op0) {
-        shapes::only(0x7C, 0xE1, q)
-    } else {
-        shapes::unary(0x76, 0xD, q)
-    }
-}
-
-pub(crate) fn push(q: Asked) -> Code
-    ensures { λ r. ⌜ r ≡ coded (chooseBy PUSH q) ⌝ }
-{
-    let op0 = q.op0;
-    if names::is_wide(op0) {
-        shapes::only(0x7C, 0xE2, q)
-    } else {
-        shapes::unary(0x74, 4, q)
-    }
-}
-
 pub(crate) fn exts(q: Asked) -> Code
     ensures { λ r. ⌜ r ≡ coded (chooseBy EXTS q) ⌝ }
 {
@@ -62,7 +40,7 @@ pub(crate) fn exts(q: Asked) -> Code
     if names::same(op0, Operand::R0) {
         return fixed(0x7C, 0xF3);
     }
-    fixed(0x7C, 0x60 + codes::code_g(Width::B, op0))
+    fixed(0x7C, 0x60 + name_sets::code_of(op0))
 }
 
 pub(crate) fn int(q: Asked) -> Code
@@ -74,26 +52,26 @@ pub(crate) fn int(q: Asked) -> Code
 // JMPI and JSRI, from 0 or 10 on.
 pub(crate) fn jump(b: u64, q: Asked) -> Code
     requires { ⌜ b ≤ 0x10 ⌝ }
-    ensures { λ r. ⌜ r ≡ coded (code 0x7D (b + codeJ (q .op0))) ⌝ }
+    ensures { λ r. ⌜ r ≡ coded (choice.jump b q) ⌝ }
 {
     let op0 = q.op0;
-    fixed(0x7D, b + codes::code_j(op0))
+    fixed(0x7D, b + name_sets::code_of(op0))
 }
 
 pub(crate) fn ldc(q: Asked) -> Code
     ensures { λ r. ⌜ r ≡ coded (chooseBy LDC q) ⌝ }
 {
     let op1 = q.op1;
-    fixed(0xEB, 16 * codes::code_k(op1))
+    fixed(0xEB, 16 * name_sets::code_of(op1))
 }
 
 // PUSHC and POPC, by the low nibble.
 pub(crate) fn control(n: u64, q: Asked) -> Code
     requires { ⌜ n ≤ 15 ⌝ }
-    ensures { λ r. ⌜ r ≡ coded (code 0xEB (16 * codeK (q .op0) + n)) ⌝ }
+    ensures { λ r. ⌜ r ≡ coded (choice.control n q) ⌝ }
 {
     let op0 = q.op0;
-    fixed(0xEB, 16 * codes::code_k(op0) + n)
+    fixed(0xEB, 16 * name_sets::code_of(op0) + n)
 }
 
 pub(crate) fn stc(q: Asked) -> Code
@@ -103,7 +81,7 @@ pub(crate) fn stc(q: Asked) -> Code
     let op0 = q.op0;
     fixed(
         0x7B,
-        16 * (8 + codes::code_k(op1)) + codes::code_g(Width::W, op0),
+        16 * (8 + name_sets::code_of(op1)) + name_sets::code_of(op0),
     )
 }
 
@@ -137,15 +115,12 @@ pub(crate) fn mova(q: Asked) -> Code
 {
     let op1 = q.op1;
     let op0 = q.op0;
-    fixed(
-        0xEB,
-        16 * codes::code_g(Width::W, op1) + codes::code_g(Width::W, op0),
-    )
+    fixed(0xEB, 16 * name_sets::code_of(op1) + name_sets::code_of(op0))
 }
 
 pub(crate) fn pusha(q: Asked) -> Code
     ensures { λ r. ⌜ r ≡ coded (chooseBy PUSHA q) ⌝ }
 {
     let op0 = q.op0;
-    fixed(0x7D, 0x90 + codes::code_g(Width::W, op0))
+    fixed(0x7D, 0x90 + name_sets::code_of(op0))
 }

@@ -1,8 +1,8 @@
 -- The direct choice for document 01: the opcode gives the few rows, each operand's base and number its name, and that the nibble.
--- (A name outside a list has no code there; no names that go together come to that.)
-use Prim.Native.Nat.{ℕ, suc, _+_, _*_}
+-- (A name in no list has a code too; no names that go together come to that.)
+use Prim.Native.Nat.{ℕ, suc, _+_, _*_, _%_}
 use mathlib.Core.Bool.{Bool, true, false}
-use mathlib.Core.List.{List, [], _∷_}
+use mathlib.Core.List.{List, [], _∷_, _++_}
 use lib.Dec.{ltb, eqb}
 use Rattle.laws.specs.Choice.{pick, both}
 use Rattle.record.specs.declared.Record.{Record}
@@ -54,21 +54,18 @@ unfoldable pub place : List Operand → Operand → ℕ
 place [] o = 0
 place (x ∷ xs) o = pick (sameName x o) 0 (suc (place xs o))
 
-abbrev pub codeG : Width → Operand → ℕ
-codeG B o = place byteNames o
-codeG W o = place wordNames o
-codeG None o = place wordNames o
+-- J's names
+abbrev pub longs : List Operand
+longs =
+    R2R0 ∷ R3R1 ∷ Nothing ∷ Nothing ∷ A1A0 ∷ Nothing ∷ «Deref_A0» ∷ «Deref_A1» ∷ «Disp8_A0» ∷ «Disp8_A1» ∷ «Disp8_SB» ∷ «Disp8_FB»
+    ∷ «Disp20_A0» ∷ «Disp20_A1» ∷ «Disp16_SB» ∷ Abs16 ∷ []
 
-abbrev pub codeT : Operand → ℕ
-codeT o = place bits o
+-- the lists of document 01 one behind the other, sixteen names each: a name that two of them have has one code in both
+abbrev pub listed : List Operand
+listed = byteNames ++ (wordNames ++ (bits ++ (longs ++ (Nothing ∷ controls))))
 
-abbrev pub codeJ : Operand → ℕ
-codeJ o =
-    place (R2R0 ∷ R3R1 ∷ Nothing ∷ Nothing ∷ A1A0 ∷ Nothing ∷ «Deref_A0» ∷ «Deref_A1» ∷ «Disp8_A0» ∷ «Disp8_A1» ∷ «Disp8_SB» ∷ «Disp8_FB»
-    ∷ «Disp20_A0» ∷ «Disp20_A1» ∷ «Disp16_SB» ∷ Abs16 ∷ []) o
-
-abbrev pub codeK : Operand → ℕ
-codeK o = place (Nothing ∷ controls) o
+abbrev pub codeOf : Operand → ℕ
+codeOf o = place listed o % 16
 
 -- the first byte of a pair, by width
 abbrev pub word : Width → ℕ
@@ -80,21 +77,25 @@ word None = 1
 abbrev pub only : ℕ → ℕ → Asked → Choice
 only f b q = code (f + word (q .width)) b
 
+-- an operand's code in the low nibble
+abbrev pub general : ℕ → ℕ → Width → Operand → Choice
+general f h w o = code (f + word w) (16 * h + codeOf o)
+
 -- operand 0 is G(n)
 abbrev pub unary : ℕ → ℕ → Asked → Choice
-unary f h q = code (f + word (q .width)) (16 * h + codeG (q .width) (q .op0))
+unary f h q = general f h (q .width) (q .op0)
 
 -- operand 1 is G(n)
 abbrev pub binary : ℕ → ℕ → Asked → Choice
-binary f h q = code (f + word (q .width)) (16 * h + codeG (q .width) (q .op1))
+binary f h q = general f h (q .width) (q .op1)
 
 -- both are
 abbrev pub twice : ℕ → Asked → Choice
-twice f q = code (f + word (q .width)) (16 * codeG (q .width) (q .op0) + codeG (q .width) (q .op1))
+twice f q = general f (codeOf (q .op0)) (q .width) (q .op1)
 
 -- 7E
 abbrev pub bit : ℕ → Asked → Choice
-bit h q = code 0x7E (16 * h + codeT (q .op0))
+bit h q = code 0x7E (16 * h + codeOf (q .op0))
 
 -- the condition of a flag, 7D D, or of a bit
 abbrev pub onWidth : Width → Choice → Choice → Choice
@@ -115,23 +116,24 @@ onField early x y = y
 abbrev pub orImm : Choice → Choice → Asked → Choice
 orImm x y q = onField (fieldOf (q .op0)) x y
 
+-- an immediate alone, or G(n)
+abbrev pub immOrUnary : ℕ → ℕ → ℕ → Asked → Choice
+immOrUnary b f h q = orImm (only 0x7C b q) (unary f h q) q
+
 abbrev pub decimal : ℕ → Asked → Choice
 decimal i q = orImm (only 0x7C (0xEC + i) q) (only 0x7C (0xE4 + i) q) q
 
 -- MOVLL and the like: to R0L, which comes first, or from it
 abbrev pub half : ℕ → Asked → Choice
-half h q = pick (sameName (q .op1) R0L) (code 0x7C (16 * h + codeG B (q .op0))) (pick (sameName (q .op0) R0L) (code 0x7C (16 * (8 + h) + codeG B (q .op1))) nothing)
+half h q = pick (sameName (q .op1) R0L) (code 0x7C (16 * h + codeOf (q .op0))) (pick (sameName (q .op0) R0L) (code 0x7C (16 * (8 + h) + codeOf (q .op1))) nothing)
 
 -- STE and LDE, by the operand beside G(n)
 abbrev pub far : Operand → ℕ
 far o = pick (sameName o Abs20) 0 (pick (sameName o «Disp20_A0») 1 2)
 
 -- SHL and SHA: at size L a pair, by R1H or by Imm4
-abbrev pub pair : Operand → ℕ
-pair o = pick (sameName o R2R0) 0 1
-
 abbrev pub long : ℕ → Asked → Choice
-long s q = pick (sameName (q .op0) Imm4) (code 0xEB (16 * (8 + s + pair (q .op1)) + q .number)) (code 0xEB (16 * (s + pair (q .op1)) + 1))
+long s q = pick (sameName (q .op0) Imm4) (code 0xEB (16 * (8 + s + codeOf (q .op1)) + q .number)) (code 0xEB (16 * (s + codeOf (q .op1)) + 1))
 
 abbrev pub onSize : Size → Choice → Choice → Choice
 onSize size.L x y = x
@@ -141,6 +143,14 @@ onSize size.W x y = y
 
 abbrev pub shift : ℕ → ℕ → Asked → Choice
 shift h s q = onSize (q .size) (long s q) (binary 0x74 h q)
+
+-- JMPI and JSRI, from 0 or 10 on
+abbrev pub jump : ℕ → Asked → Choice
+jump b q = code 0x7D (b + codeOf (q .op0))
+
+-- PUSHC and POPC, by the low nibble
+abbrev pub control : ℕ → Asked → Choice
+control n q = code 0xEB (16 * codeOf (q .op0) + n)
 
 unfoldable pub chooseBy : Opcode → Asked → Choice
 chooseBy opcode.NOP q = nothing
@@ -179,14 +189,14 @@ chooseBy opcode.BXOR q = bit 0xC q
 chooseBy opcode.CMP q = binary 0x76 8 q
 chooseBy opcode.DADC q = decimal 2 q
 chooseBy opcode.DADD q = decimal 0 q
-chooseBy opcode.DIV q = orImm (only 0x7C 0xE1 q) (unary 0x76 0xD q) q
+chooseBy opcode.DIV q = immOrUnary 0xE1 0x76 0xD q
 chooseBy opcode.DIVU q = only 0x7C 0xE0 q
 chooseBy opcode.DIVX q = only 0x7C 0xE3 q
 chooseBy opcode.DSBB q = decimal 3 q
 chooseBy opcode.DSUB q = decimal 1 q
 chooseBy opcode.ENTER q = code 0x7C 0xF2
 chooseBy opcode.EXITD q = code 0x7D 0xF2
-chooseBy opcode.EXTS q = pick (sameName (q .op0) R0) (code 0x7C 0xF3) (code 0x7C (0x60 + codeG B (q .op0)))
+chooseBy opcode.EXTS q = pick (sameName (q .op0) R0) (code 0x7C 0xF3) (code 0x7C (0x60 + codeOf (q .op0)))
 chooseBy opcode.FCLR q = nothing
 chooseBy opcode.FSET q = nothing
 chooseBy opcode.GE q = nothing
@@ -195,17 +205,17 @@ chooseBy opcode.JGE q = code 0x7D 0xCA
 chooseBy opcode.JGT q = code 0x7D 0xCC
 chooseBy opcode.JLE q = code 0x7D 0xC8
 chooseBy opcode.JLT q = code 0x7D 0xCE
-chooseBy opcode.JMPI q = code 0x7D (codeJ (q .op0))
+chooseBy opcode.JMPI q = jump 0 q
 chooseBy opcode.JNO q = code 0x7D 0xCD
 chooseBy opcode.JO q = code 0x7D 0xC9
-chooseBy opcode.JSRI q = code 0x7D (0x10 + codeJ (q .op0))
-chooseBy opcode.LDC q = code 0xEB (16 * codeK (q .op1))
+chooseBy opcode.JSRI q = jump 0x10 q
+chooseBy opcode.LDC q = code 0xEB (16 * codeOf (q .op1))
 chooseBy opcode.LDCTX q = code 0x7C 0xF0
 chooseBy opcode.LDE q = binary 0x74 (8 + far (q .op0)) q
 chooseBy opcode.LDIPL q = nothing
 chooseBy opcode.LT q = nothing
 chooseBy opcode.MOV q = binary 0x74 (pick (sameName (q .op0) «Disp8_SP») 0xB 0xC) q
-chooseBy opcode.MOVA q = code 0xEB (16 * codeG W (q .op1) + codeG W (q .op0))
+chooseBy opcode.MOVA q = code 0xEB (16 * codeOf (q .op1) + codeOf (q .op0))
 chooseBy opcode.MOVHH q = half 3 q
 chooseBy opcode.MOVHL q = half 2 q
 chooseBy opcode.MOVLH q = half 1 q
@@ -217,11 +227,11 @@ chooseBy opcode.NO q = nothing
 chooseBy opcode.NOT q = unary 0x74 7 q
 chooseBy opcode.OR q = binary 0x76 3 q
 chooseBy opcode.POP q = unary 0x74 0xD q
-chooseBy opcode.POPC q = code 0xEB (16 * codeK (q .op0) + 3)
+chooseBy opcode.POPC q = control 3 q
 chooseBy opcode.POPM q = nothing
-chooseBy opcode.PUSH q = orImm (only 0x7C 0xE2 q) (unary 0x74 4 q) q
-chooseBy opcode.PUSHA q = code 0x7D (0x90 + codeG W (q .op0))
-chooseBy opcode.PUSHC q = code 0xEB (16 * codeK (q .op0) + 2)
+chooseBy opcode.PUSH q = immOrUnary 0xE2 0x74 4 q
+chooseBy opcode.PUSHA q = code 0x7D (0x90 + codeOf (q .op0))
+chooseBy opcode.PUSHC q = control 2 q
 chooseBy opcode.PUSHM q = nothing
 chooseBy opcode.RMPA q = only 0x7C 0xF1 q
 chooseBy opcode.ROLC q = unary 0x76 0xA q
@@ -233,7 +243,7 @@ chooseBy opcode.SHL q = shift 0xE 0 q
 chooseBy opcode.SMOVB q = only 0x7C 0xE9 q
 chooseBy opcode.SMOVF q = only 0x7C 0xE8 q
 chooseBy opcode.SSTR q = only 0x7C 0xEA q
-chooseBy opcode.STC q = code 0x7B (16 * (8 + codeK (q .op1)) + codeG W (q .op0))
+chooseBy opcode.STC q = code 0x7B (16 * (8 + codeOf (q .op1)) + codeOf (q .op0))
 chooseBy opcode.STCTX q = code 0x7D 0xF0
 chooseBy opcode.STE q = unary 0x74 (far (q .op1)) q
 chooseBy opcode.SUB q = binary 0x76 5 q

@@ -1,8 +1,8 @@
--- `encode_choice::name_sets::form_of` meets its contract. Made by scripts/tables/make-name-sets from crates/encode_choice/specs/steps/Forms.antt.
+-- `encode_choice::name_sets::form_of` meets its contract. Made by scripts/tables/make-name-sets from encode_choice/specs/steps/{Choose,Forms}.antt.
 -- Assumes nothing.
 use borrow.Author.Needs.{needs}
 use Rattle.encode_choice.specs.steps.Forms.{formOf}
-use Rattle.encode_choice.proofs.SetBits.{form-told}
+use Rattle.encode_choice.proofs.Lookups.{form-told}
 use Rattle.encode_choice.proofs.name_sets.form_of.Statement.{statement}
 use Rattle.encode_choice.proofs.name_sets.form_of.Tie as tie
 

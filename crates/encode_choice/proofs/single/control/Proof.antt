@@ -9,7 +9,7 @@ use Rattle.encode_choice.proofs.single.control.Statement.{statement}
 use Rattle.encode_choice.proofs.single.control.Tie as tie
 
 returns : tie.Need-returns
-returns c = c .fixed .ensures ∙ ap (λ n. coded (code 0xEB (16 * n + c .before .before .args .n))) (c .before .code-k .ensures .0)
+returns c = c .fixed .ensures ∙ ap (λ n. coded (code 0xEB (16 * n + c .before .before .args .n))) (c .before .code-of .ensures .0)
 
 pub control-spec : {M : Type 1} → statement M
 control-spec = tie.close (tie.spec (λ c κs. search needs) (λ c. search needs) (λ c. search needs) (λ c κs. search needs) returns)

@@ -9,7 +9,7 @@ use Rattle.encode_choice.proofs.single.jump.Statement.{statement}
 use Rattle.encode_choice.proofs.single.jump.Tie as tie
 
 returns : tie.Need-returns
-returns c = c .fixed .ensures ∙ ap (λ n. coded (code 0x7D (c .before .before .args .b + n))) (c .before .code-j .ensures .0)
+returns c = c .fixed .ensures ∙ ap (λ n. coded (code 0x7D (c .before .before .args .b + n))) (c .before .code-of .ensures .0)
 
 pub jump-spec : {M : Type 1} → statement M
 jump-spec = tie.close (tie.spec (λ c κs. search needs) (λ c. search needs) (λ c κs. search needs) returns)

@@ -11,7 +11,7 @@ use Rattle.encode_choice.proofs.single.ldc.Tie as tie
 
 returns : tie.Need-returns
 unfolding chooseBy
-returns c = c .fixed .ensures ∙ ap (λ n. coded (code 0xEB (16 * n))) (c .before .code-k .ensures .0)
+returns c = c .fixed .ensures ∙ ap (λ n. coded (code 0xEB (16 * n))) (c .before .code-of .ensures .0)
 
 pub ldc-spec : {M : Type 1} → statement M
 ldc-spec = tie.close (tie.spec (λ c κs. search needs) (λ c. search needs) (λ c κs. search needs) returns)

@@ -11,7 +11,7 @@ use Rattle.encode_choice.proofs.single.stc.Tie as tie
 
 returns : tie.Need-returns
 unfolding chooseBy
-returns c = c .fixed .ensures ∙ ap₂ (λ h n. coded (code 0x7B (16 * (8 + h) + n))) (c .before .before .code-k .ensures .0) (c .before .code-g .ensures .0)
+returns c = c .fixed .ensures ∙ ap₂ (λ h n. coded (code 0x7B (16 * (8 + h) + n))) (c .before .before .code-of .ensures .0) (c .before .code-of2 .ensures .0)
 
 pub stc-spec : {M : Type 1} → statement M
 stc-spec = tie.close (tie.spec (λ c κs. search needs) (λ c. search needs) (λ c. search needs) (λ c κs. search needs) (λ c. search needs) (λ c κs. search needs) returns)
