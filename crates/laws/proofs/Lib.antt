@@ -1,4 +1,6 @@
+pub mod Agree
+pub mod Any
 pub mod Choice
 pub mod Range
-pub mod Table
 pub mod Rest
+pub mod Table
