@@ -8,7 +8,7 @@ use lib.Dec.{eqb, leb}
 use lib.ListN.{getD}
 use borrow.Author.Tests.{lt-ltb, le-ltb}
 use Rattle.laws.specs.Choice.{pick}
-use Rattle.laws.proofs.Range.{each}
+use Rattle.laws.proofs.Agree.{agree}
 use Rattle.record.specs.declared.Answer.{Answer}
 use Rattle.record.specs.declared.Operand.{Operand}
 use Rattle.record.specs.declared.Seen.{Seen}
@@ -28,7 +28,7 @@ table7E h n = pick (leb 14 h) (refused InvalidOpcode) (bits (opcodeT h) n (pick 
 
 pub tables7E : (n h : ℕ) → h < 16 → row7E h n ≡ table7E h n
 unfolding row row7E
-tables7E n = each (λ h. row7E h n ≡ table7E h n) 16 ((((((((((((((((tt, refl), refl), refl), refl), refl), refl), refl), refl), refl), refl), refl), refl), refl), refl), refl), refl)
+tables7E n = agree (λ h. row7E h n) (λ h. table7E h n) 16 refl
 
 -- BMcnd's operand, as its name is read
 pub operand-named : (bs : List ℕ) (s : Seen) (o : Opcode) {x : Answer} {a b : Operand} → x ≡ run (cond ∷ []) bs (bitFace o a) s → a ≡ b → x ≡ run (cond ∷ []) bs (bitFace o b) s
@@ -40,11 +40,11 @@ conditionT c = getD (BMGEU ∷ BMGTU ∷ BMEQ ∷ BMN ∷ BMLE ∷ BMO ∷ BMGE 
 
 pub low : (c : ℕ) → c < 0x07 → condOf c ≡ named (conditionT c)
 unfolding condOf
-low = each (λ c. condOf c ≡ named (conditionT c)) 7 (((((((tt, refl), refl), refl), refl), refl), refl), refl)
+low = agree condOf (λ c. named (conditionT c)) 7 refl
 
 from : (k : ℕ) → k < 7 → condOf (0xF8 + k) ≡ named (conditionT (0xF8 + k))
 unfolding condOf
-from = each (λ k. condOf (0xF8 + k) ≡ named (conditionT (0xF8 + k))) 7 (((((((tt, refl), refl), refl), refl), refl), refl), refl)
+from = agree (λ k. condOf (0xF8 + k)) (λ k. named (conditionT (0xF8 + k))) 7 refl
 
 pub high : (c : ℕ) → 0xF8 ≤ c → c < 0xFF → condOf c ≡ named (conditionT c)
 high c g l =

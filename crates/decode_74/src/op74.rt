@@ -3,7 +3,7 @@ ghost use Prim.Native.Nat.{_/_, _%_, _<_};
 ghost use Rattle.rows.specs.Rows.{row74};
 ghost use Rattle.rows.specs.Run.{reading, runRow};
 ghost use Rattle.readers.specs.steps.Width.{widthOf};
-ghost use Rattle.decode_74.specs.steps.Op74.{size74, other74, first74, rest74, shift74, stop74};
+ghost use Rattle.decode_74.specs.steps.Op74.{size74, other74, rest74, stop74};
 use readers::answer;
 use readers::general;
 use readers::numbers;
@@ -78,42 +78,17 @@ fn other_74(byte: bool, h: u8) -> Operand
     OTHERS[h as usize]
 }
 
-// ROT, SHL and SHA.
-fn is_shift(h: u8) -> bool
-    ensures { λ r. ⌜ r ≡ shift74 h ⌝ }
-{
-    match h {
-        6 => true,
-        14 => true,
-        15 => true,
-        _ => false,
-    }
-}
-
-// R1 at W and R1H at B can't be shifted.
+// ROT, SHL and SHA: R1 at W and R1H at B can't be shifted.
 fn stop_74(byte: bool, h: u8, n: u8) -> bool
     ensures { λ r. ⌜ r ≡ stop74 (widthOf byte) h n ⌝ }
 {
-    if is_shift(h) {
+    if (h == 6) | (h == 14) | (h == 15) {
         if byte {
             return n == 3;
         }
         return n == 1;
     }
     false
-}
-
-// Whether G(n) is operand 0.
-fn first_74(h: u8) -> bool
-    ensures { λ r. ⌜ r ≡ first74 h ⌝ }
-{
-    if h < 6 {
-        return true;
-    }
-    if h == 7 {
-        return true;
-    }
-    h == 13
 }
 
 // What stands behind G(n): 20 bits for STE and LDE at h mod 8 = 0, 1.
@@ -144,18 +119,17 @@ pub fn decode_op74(bs: &[u8], byte: bool, b: u8) -> Answer
     let other = other_74(byte, h);
     let o = OPCODES[h as usize];
     let z = size_74(byte, h);
-    let first = first_74(h);
+    // whether G(n) is operand 0
+    let first = (h < 6) | (h == 7) | (h == 13);
     let w = answer::width_of(byte);
     match general::general(bs, answer::BEGIN, n) {
         Got::Short => answer::refuse(refusal::EXHAUSTED_INPUT, bs.len()),
-        Got::On(s) => match rest_74(bs, byte, h, s) {
-            Got::Short => answer::refuse(refusal::EXHAUSTED_INPUT, bs.len()),
-            Got::On(t) => {
-                if first {
-                    return answer::accept(o, z, w, name, other, h == 3, t);
-                }
-                answer::accept(o, z, w, other, name, h == 3, t)
+        Got::On(s) => {
+            let got = rest_74(bs, byte, h, s);
+            if first {
+                return answer::finish(bs, got, o, z, w, name, other, h == 3);
             }
-        },
+            answer::finish(bs, got, o, z, w, other, name, h == 3)
+        }
     }
 }

@@ -3,7 +3,7 @@ ghost use Prim.Native.Nat.{_/_, _%_};
 ghost use Rattle.rows.specs.Rows.{row76};
 ghost use Rattle.rows.specs.Run.{runRow};
 ghost use Rattle.readers.specs.steps.Width.{widthOf};
-ghost use Rattle.decode_74.specs.steps.Op76.{unary76, immediate76, both76, isImmediate, isUnary};
+ghost use Rattle.decode_74.specs.steps.Op76.{unary76, immediate76, both76};
 use readers::answer;
 use readers::general;
 use readers::numbers;
@@ -40,24 +40,13 @@ fn unary_76(bs: &[u8], byte: bool, b: u8) -> Answer
     let h = b / 16;
     let name = general::general_name(byte, b);
     let o = OPCODES[h as usize];
-    match general::general(bs, answer::BEGIN, b % 16) {
-        Got::Short => answer::refuse(refusal::EXHAUSTED_INPUT, bs.len()),
-        Got::On(s) => {
-            let w = answer::width_of(byte);
-            if h == 13 {
-                return answer::accept(
-                    o,
-                    answer::size_of(byte),
-                    w,
-                    name,
-                    Operand::Nothing,
-                    false,
-                    s,
-                );
-            }
-            answer::accept(o, Size::None, w, name, Operand::Nothing, false, s)
-        }
+    let got = general::general(bs, answer::BEGIN, b % 16);
+    let w = answer::width_of(byte);
+    if h == 13 {
+        let z = answer::size_of(byte);
+        return answer::finish(bs, got, o, z, w, name, Operand::Nothing, false);
     }
+    answer::finish(bs, got, o, Size::None, w, name, Operand::Nothing, false)
 }
 
 // DIVX and DIVU: the immediate alone, n is ignored.
@@ -65,18 +54,11 @@ fn immediate_76(bs: &[u8], byte: bool, b: u8) -> Answer
     ensures { λ r. ⌜ r ≡ runRow (immediate76 (widthOf byte) (b / 16)) (now (bs .entry)) ⌝ }
 {
     let o = OPCODES[(b / 16) as usize];
-    match numbers::immediate(bs, byte, answer::BEGIN) {
-        Got::Short => answer::refuse(refusal::EXHAUSTED_INPUT, bs.len()),
-        Got::On(s) => answer::accept(
-            o,
-            answer::size_of(byte),
-            answer::width_of(byte),
-            numbers::immediate_name(byte),
-            Operand::Nothing,
-            true,
-            s,
-        ),
-    }
+    let got = numbers::immediate(bs, byte, answer::BEGIN);
+    let z = answer::size_of(byte);
+    let w = answer::width_of(byte);
+    let name = numbers::immediate_name(byte);
+    answer::finish(bs, got, o, z, w, name, Operand::Nothing, true)
 }
 
 // TST to CMP, and ADCF: G(n) is read before the immediate.
@@ -88,42 +70,21 @@ fn both_76(bs: &[u8], byte: bool, b: u8) -> Answer
     let o = OPCODES[h as usize];
     match general::general(bs, answer::BEGIN, b % 16) {
         Got::Short => answer::refuse(refusal::EXHAUSTED_INPUT, bs.len()),
-        Got::On(s) => match numbers::immediate(bs, byte, s) {
-            Got::Short => answer::refuse(refusal::EXHAUSTED_INPUT, bs.len()),
-            Got::On(t) => answer::accept(
+        Got::On(s) => {
+            let got = numbers::immediate(bs, byte, s);
+            let z = answer::size_of(byte);
+            let w = answer::width_of(byte);
+            answer::finish(
+                bs,
+                got,
                 o,
-                answer::size_of(byte),
-                answer::width_of(byte),
+                z,
+                w,
                 numbers::immediate_name(byte),
                 name,
                 h == 14,
-                t,
-            ),
-        },
-    }
-}
-
-// DIVX and DIVU.
-fn is_immediate(h: u8) -> bool
-    ensures { λ r. ⌜ r ≡ isImmediate h ⌝ }
-{
-    match h {
-        9 => true,
-        12 => true,
-        _ => false,
-    }
-}
-
-// ROLC, RORC, DIV and ABS.
-fn is_unary(h: u8) -> bool
-    ensures { λ r. ⌜ r ≡ isUnary h ⌝ }
-{
-    match h {
-        10 => true,
-        11 => true,
-        13 => true,
-        15 => true,
-        _ => false,
+            )
+        }
     }
 }
 
@@ -131,10 +92,10 @@ pub fn decode_op76(bs: &[u8], byte: bool, b: u8) -> Answer
     ensures { λ r. ⌜ r ≡ runRow (row76 (widthOf byte) (b / 16) (b % 16)) (now (bs .entry)) ⌝ }
 {
     let h = b / 16;
-    if is_immediate(h) {
+    if (h == 9) | (h == 12) {
         return immediate_76(bs, byte, b);
     }
-    if is_unary(h) {
+    if (h == 10) | (h == 11) | (h == 13) | (h == 15) {
         return unary_76(bs, byte, b);
     }
     both_76(bs, byte, b)

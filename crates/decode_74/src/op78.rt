@@ -26,18 +26,9 @@ pub fn decode_op78(bs: &[u8], byte: bool, b: u8) -> Answer
             if mul::bad_mul(byte, n) {
                 return answer::refuse(refusal::INVALID_OPERAND, s.taken);
             }
-            match general::general(bs, s, n) {
-                Got::Short => answer::refuse(refusal::EXHAUSTED_INPUT, bs.len()),
-                Got::On(t) => answer::accept(
-                    Opcode::MUL,
-                    Size::None,
-                    answer::width_of(byte),
-                    source,
-                    dest,
-                    false,
-                    t,
-                ),
-            }
+            let got = general::general(bs, s, n);
+            let w = answer::width_of(byte);
+            answer::finish(bs, got, Opcode::MUL, Size::None, w, source, dest, false)
         }
     }
 }

@@ -7,7 +7,6 @@ use readers::answer;
 use readers::control;
 use readers::general;
 use record::Answer;
-use record::Got;
 use record::Opcode;
 use record::Size;
 use record::Width;
@@ -23,10 +22,17 @@ fn store_control(bs: &[u8], b: u8) -> Answer
     }
     let source = general::general_name(false, b);
     let dest = control::control_name(b / 16);
-    match general::general(bs, answer::BEGIN, b % 16) {
-        Got::Short => answer::refuse(refusal::EXHAUSTED_INPUT, bs.len()),
-        Got::On(s) => answer::accept(Opcode::STC, Size::None, Width::W, source, dest, false, s),
-    }
+    let got = general::general(bs, answer::BEGIN, b % 16);
+    answer::finish(
+        bs,
+        got,
+        Opcode::STC,
+        Size::None,
+        Width::W,
+        source,
+        dest,
+        false,
+    )
 }
 
 pub fn decode_op7B(bs: &[u8], b: u8) -> Answer
@@ -34,9 +40,6 @@ pub fn decode_op7B(bs: &[u8], b: u8) -> Answer
 {
     if 0x80 <= b {
         return store_control(bs, b);
-    }
-    if 0x40 <= b {
-        return answer::refuse(refusal::INVALID_OPERAND, 2);
     }
     exchange::exchange(bs, false, b)
 }

@@ -4,7 +4,7 @@ use Prim.Native.Nat.{ℕ, _<_}
 use mathlib.Core.Path.{_≡_, refl}
 use mathlib.Core.Bool.{Bool, true, false}
 use mathlib.Core.List.{List}
-use Rattle.laws.proofs.Range.{each}
+use Rattle.laws.proofs.Agree.{agree}
 use Rattle.record.specs.declared.Width.{Width}
 use Rattle.rows.specs.Rows.{row, mulu, mul, rowE}
 use Rattle.rows.specs.Run.{readDisp, run, runRow}
@@ -13,7 +13,7 @@ use Rattle.decode_7c.specs.steps.Shared.{mulBy, tableE}
 
 pub tablesE : (w : Width) (n : ℕ) → n < 16 → rowE w n ≡ tableE w n
 unfolding row rowE tableE
-tablesE w = each (λ n. rowE w n ≡ tableE w n) 16 ((((((((((((((((tt, refl), refl), refl), refl), refl), refl), refl), refl), refl), refl), refl), refl), refl), refl), refl), refl)
+tablesE w = agree (rowE w) (tableE w) 16 refl
 
 pub unsigned : (byte : Bool) (n : ℕ) (bs : List ℕ) → runRow (mulBy true (widthOf byte) n) bs ≡ runRow (mulu (widthOf byte) n) bs
 unfolding run runRow row readDisp

@@ -2,14 +2,13 @@ ghost use mathlib.Core.Path.{_≡_};
 ghost use Prim.Native.Nat.{_/_, _%_, _<_};
 ghost use Rattle.rows.specs.Rows.{exts, extsC, row7C, row7CF};
 ghost use Rattle.rows.specs.Run.{runRow};
-ghost use Rattle.decode_7c.specs.steps.Op7C.{meantBy, nibbleMark, nibble, noExts};
+ghost use Rattle.decode_7c.specs.steps.Op7C.{nibbleMark, nibble};
 use crate::shared;
 use readers::answer;
 use readers::general;
 use readers::long;
 use readers::numbers;
 use record::Answer;
-use record::Got;
 use record::Opcode;
 use record::Operand;
 use record::Size;
@@ -22,25 +21,11 @@ const MOVES: [Opcode; 4] = [Opcode::MOVLL, Opcode::MOVLH, Opcode::MOVHL, Opcode:
 const MIXED: [bool; 4] = [false, true, true, false];
 
 // where it gives the code a meaning: not with R0L, A0, A1.
-fn is_meant(n: u8) -> bool
-    ensures { λ r. ⌜ r ≡ meantBy n ⌝ }
-{
-    match n {
-        0 => false,
-        4 => false,
-        5 => false,
-        _ => true,
-    }
-}
-
 fn nibble_mark(h: u8, n: u8) -> bool
     requires { ⌜ n < 16 ⌝ }
     ensures { λ r. ⌜ r ≡ nibbleMark h n ⌝ }
 {
-    if MIXED[(h % 4) as usize] {
-        return is_meant(n);
-    }
-    false
+    MIXED[(h % 4) as usize] & !((n == 0) | (n == 4) | (n == 5))
 }
 
 // MOVLL and the like: from G(n) to R0L below h = 8, else from R0L to G(n).
@@ -51,49 +36,33 @@ fn move_nibble(bs: &[u8], b: u8) -> Answer
     let name = general::general_name(true, b);
     let o = MOVES[(h % 4) as usize];
     let m = nibble_mark(h, b % 16);
-    match general::general(bs, answer::BEGIN, b % 16) {
-        Got::Short => answer::refuse(refusal::EXHAUSTED_INPUT, bs.len()),
-        Got::On(s) => {
-            if h < 4 {
-                return answer::accept(o, Size::None, Width::B, name, Operand::R0L, m, s);
-            }
-            answer::accept(o, Size::None, Width::B, Operand::R0L, name, m, s)
-        }
+    let got = general::general(bs, answer::BEGIN, b % 16);
+    if h < 4 {
+        return answer::finish(bs, got, o, Size::None, Width::B, name, Operand::R0L, m);
     }
+    answer::finish(bs, got, o, Size::None, Width::B, Operand::R0L, name, m)
 }
 
 // EXTS.B has no R0H, R1H, A0, A1.
-fn no_exts(n: u8) -> bool
-    ensures { λ r. ⌜ r ≡ noExts n ⌝ }
-{
-    match n {
-        1 => true,
-        3 => true,
-        4 => true,
-        5 => true,
-        _ => false,
-    }
-}
-
 fn extend_byte(bs: &[u8], b: u8) -> Answer
     ensures { λ r. ⌜ r ≡ runRow (exts (b % 16)) (now (bs .entry)) ⌝ }
 {
-    if no_exts(b % 16) {
+    let n = b % 16;
+    if (n == 1) | (n == 3) | (n == 4) | (n == 5) {
         return answer::refuse(refusal::INVALID_OPERAND, 2);
     }
     let name = general::general_name(true, b);
-    match general::general(bs, answer::BEGIN, b % 16) {
-        Got::Short => answer::refuse(refusal::EXHAUSTED_INPUT, bs.len()),
-        Got::On(s) => answer::accept(
-            Opcode::EXTS,
-            Size::None,
-            Width::B,
-            name,
-            Operand::Nothing,
-            false,
-            s,
-        ),
-    }
+    let got = general::general(bs, answer::BEGIN, b % 16);
+    answer::finish(
+        bs,
+        got,
+        Opcode::EXTS,
+        Size::None,
+        Width::B,
+        name,
+        Operand::Nothing,
+        false,
+    )
 }
 
 // The codes of h = C: register pairs, then G.
@@ -123,36 +92,34 @@ fn extend_pair(bs: &[u8], b: u8) -> Answer
         return answer::refuse(refusal::INVALID_OPERAND, 2);
     }
     let name = PAIRS[(b % 16) as usize];
-    match general::general(bs, answer::BEGIN, b % 16) {
-        Got::Short => answer::refuse(refusal::EXHAUSTED_INPUT, bs.len()),
-        Got::On(s) => answer::accept(
-            Opcode::EXTS,
-            Size::None,
-            Width::B,
-            name,
-            Operand::Nothing,
-            true,
-            s,
-        ),
-    }
+    let got = general::general(bs, answer::BEGIN, b % 16);
+    answer::finish(
+        bs,
+        got,
+        Opcode::EXTS,
+        Size::None,
+        Width::B,
+        name,
+        Operand::Nothing,
+        true,
+    )
 }
 
 // ENTER: one byte.
 fn enter(bs: &[u8]) -> Answer
     ensures { λ r. ⌜ r ≡ runRow (row7CF 2) (now (bs .entry)) ⌝ }
 {
-    match numbers::imm_byte(bs, answer::BEGIN) {
-        Got::Short => answer::refuse(refusal::EXHAUSTED_INPUT, bs.len()),
-        Got::On(s) => answer::accept(
-            Opcode::ENTER,
-            Size::None,
-            Width::B,
-            Operand::Imm8,
-            Operand::Nothing,
-            false,
-            s,
-        ),
-    }
+    let got = numbers::imm_byte(bs, answer::BEGIN);
+    answer::finish(
+        bs,
+        got,
+        Opcode::ENTER,
+        Size::None,
+        Width::B,
+        Operand::Imm8,
+        Operand::Nothing,
+        false,
+    )
 }
 
 // h = F, by n.

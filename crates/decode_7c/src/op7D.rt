@@ -6,14 +6,13 @@ ghost use Rattle.record.specs.declared.Width.the-variants.{W};
 ghost use Rattle.record.specs.declared.Operand.the-variants.{Nothing};
 ghost use mathlib.Core.Bool.{false};
 ghost use Rattle.rows.specs.Run.{accepted, begun, runRow};
-ghost use Rattle.decode_7c.specs.steps.Op7D.{opcodeJ, jumpBy, signed3, noCondition, markedBy};
+ghost use Rattle.decode_7c.specs.steps.Op7D.{opcodeJ, jumpBy, signed3, noCondition};
 use crate::shared;
 use readers::answer;
 use readers::general;
 use readers::long;
 use readers::numbers;
 use record::Answer;
-use record::Got;
 use record::Opcode;
 use record::Operand;
 use record::Size;
@@ -39,18 +38,18 @@ fn indirect(bs: &[u8], b: u8) -> Answer
     }
     let h = b / 16;
     let name = long::long_name(b);
-    match long::long(bs, answer::BEGIN, b % 16) {
-        Got::Short => answer::refuse(refusal::EXHAUSTED_INPUT, bs.len()),
-        Got::On(s) => answer::accept(
-            jump_opcode(h),
-            Size::None,
-            Width::W,
-            name,
-            Operand::Nothing,
-            2 <= h,
-            s,
-        ),
-    }
+    let o = jump_opcode(h);
+    let got = long::long(bs, answer::BEGIN, b % 16);
+    answer::finish(
+        bs,
+        got,
+        o,
+        Size::None,
+        Width::W,
+        name,
+        Operand::Nothing,
+        2 <= h,
+    )
 }
 
 // PUSHA has no code below 8.
@@ -62,18 +61,17 @@ fn push_address(bs: &[u8], b: u8) -> Answer
         return answer::refuse(refusal::INVALID_OPERAND, 2);
     }
     let name = general::general_name(false, b);
-    match general::general(bs, answer::BEGIN, n) {
-        Got::Short => answer::refuse(refusal::EXHAUSTED_INPUT, bs.len()),
-        Got::On(s) => answer::accept(
-            Opcode::PUSHA,
-            Size::None,
-            Width::W,
-            name,
-            Operand::Nothing,
-            false,
-            s,
-        ),
-    }
+    let got = general::general(bs, answer::BEGIN, n);
+    answer::finish(
+        bs,
+        got,
+        Opcode::PUSHA,
+        Size::None,
+        Width::W,
+        name,
+        Operand::Nothing,
+        false,
+    )
 }
 
 // Three bits, with their sign.
@@ -137,11 +135,7 @@ const JUMPS: [Opcode; 8] = [
 fn no_condition(n: u8) -> bool
     ensures { λ r. ⌜ r ≡ noCondition n ⌝ }
 {
-    match n {
-        11 => true,
-        15 => true,
-        _ => false,
-    }
+    (n == 11) | (n == 15)
 }
 
 // Jumps on a condition: one byte.
@@ -156,18 +150,17 @@ fn jump(bs: &[u8], b: u8) -> Answer
         return answer::refuse(refusal::INVALID_OPCODE, 2);
     }
     let o = JUMPS[(n % 8) as usize];
-    match numbers::imm_byte(bs, answer::BEGIN) {
-        Got::Short => answer::refuse(refusal::EXHAUSTED_INPUT, bs.len()),
-        Got::On(s) => answer::accept(
-            o,
-            Size::None,
-            Width::W,
-            Operand::Disp8,
-            Operand::Nothing,
-            false,
-            s,
-        ),
-    }
+    let got = numbers::imm_byte(bs, answer::BEGIN);
+    answer::finish(
+        bs,
+        got,
+        o,
+        Size::None,
+        Width::W,
+        Operand::Disp8,
+        Operand::Nothing,
+        false,
+    )
 }
 
 const CONDITIONS: [Opcode; 16] = [
@@ -189,19 +182,7 @@ const CONDITIONS: [Opcode; 16] = [
     Opcode::NOP,
 ];
 
-// GE, NO and LT.
-fn is_marked(n: u8) -> bool
-    ensures { λ r. ⌜ r ≡ markedBy n ⌝ }
-{
-    match n {
-        10 => true,
-        13 => true,
-        14 => true,
-        _ => false,
-    }
-}
-
-// A condition by n.
+// A condition by n; GE, NO and LT are marked.
 fn conditional(b: u8) -> Answer
     ensures { λ r. ⌜ ((bs : List ℕ) → r ≡ runRow (row7DD (b % 16)) bs) ⌝ }
 {
@@ -210,7 +191,7 @@ fn conditional(b: u8) -> Answer
         return answer::refuse(refusal::INVALID_OPCODE, 2);
     }
     let o = CONDITIONS[n as usize];
-    let m = is_marked(n);
+    let m = (n == 10) | (n == 13) | (n == 14);
     answer::accept(
         o,
         Size::None,

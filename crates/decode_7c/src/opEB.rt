@@ -12,7 +12,6 @@ use readers::control;
 use readers::general;
 use readers::numbers;
 use record::Answer;
-use record::Got;
 use record::Opcode;
 use record::Operand;
 use record::Size;
@@ -28,18 +27,17 @@ fn load_control(bs: &[u8], h: u8) -> Answer
         return answer::refuse(refusal::INVALID_OPERAND, 2);
     }
     let dest = control::control_name(h);
-    match numbers::imm_word(bs, answer::BEGIN) {
-        Got::Short => answer::refuse(refusal::EXHAUSTED_INPUT, bs.len()),
-        Got::On(s) => answer::accept(
-            Opcode::LDC,
-            Size::None,
-            Width::None,
-            Operand::Imm16,
-            dest,
-            false,
-            s,
-        ),
-    }
+    let got = numbers::imm_word(bs, answer::BEGIN);
+    answer::finish(
+        bs,
+        got,
+        Opcode::LDC,
+        Size::None,
+        Width::None,
+        Operand::Imm16,
+        dest,
+        false,
+    )
 }
 
 // PUSHC and POPC.
@@ -121,18 +119,17 @@ fn move_address(bs: &[u8], b: u8) -> Answer
     let h = b / 16;
     let source = general::general_name(false, b);
     let dest = general::general_name(false, h);
-    match general::general(bs, answer::BEGIN, b % 16) {
-        Got::Short => answer::refuse(refusal::EXHAUSTED_INPUT, bs.len()),
-        Got::On(s) => answer::accept(
-            Opcode::MOVA,
-            Size::None,
-            Width::None,
-            source,
-            dest,
-            6 <= h,
-            s,
-        ),
-    }
+    let got = general::general(bs, answer::BEGIN, b % 16);
+    answer::finish(
+        bs,
+        got,
+        Opcode::MOVA,
+        Size::None,
+        Width::None,
+        source,
+        dest,
+        6 <= h,
+    )
 }
 
 // h below 8, by n.

@@ -4,7 +4,7 @@ ghost use Prim.Native.Nat.{_%_};
 ghost use Rattle.rows.specs.Rows.{context, rowE};
 ghost use Rattle.rows.specs.Run.{runRow};
 ghost use Rattle.readers.specs.steps.Width.{widthOf};
-ghost use Rattle.decode_7c.specs.steps.Shared.{mulBy, immediateE, sizeE, fromE, toE};
+ghost use Rattle.decode_7c.specs.steps.Shared.{mulBy, sizeE, fromE, toE};
 use readers::answer;
 use readers::mul;
 use readers::numbers;
@@ -23,17 +23,13 @@ pub fn mul_immediate(bs: &[u8], byte: bool, unsigned: bool, b: u8) -> Answer
         return answer::refuse(refusal::INVALID_OPERAND, 2);
     }
     let name = numbers::immediate_name(byte);
-    match numbers::immediate(bs, byte, answer::BEGIN) {
-        Got::Short => answer::refuse(refusal::EXHAUSTED_INPUT, bs.len()),
-        Got::On(s) => {
-            let w = answer::width_of(byte);
-            if unsigned {
-                let z = answer::size_of(byte);
-                return answer::accept(Opcode::MULU, z, w, name, Operand::A0, true, s);
-            }
-            answer::accept(Opcode::MUL, Size::None, w, name, Operand::A1, true, s)
-        }
+    let got = numbers::immediate(bs, byte, answer::BEGIN);
+    let w = answer::width_of(byte);
+    if unsigned {
+        let z = answer::size_of(byte);
+        return answer::finish(bs, got, Opcode::MULU, z, w, name, Operand::A0, true);
     }
+    answer::finish(bs, got, Opcode::MUL, Size::None, w, name, Operand::A1, true)
 }
 
 const OPCODES: [Opcode; 16] = [
@@ -54,16 +50,6 @@ const OPCODES: [Opcode; 16] = [
     Opcode::DADC,
     Opcode::DSBB,
 ];
-
-// Which of them have an immediate as operand 0.
-fn is_immediate(n: u8) -> bool
-    ensures { λ r. ⌜ r ≡ immediateE n ⌝ }
-{
-    if n < 4 {
-        return true;
-    }
-    11 <= n
-}
 
 // DADD and the like carry no size.
 fn size_E(byte: bool, decimal: bool) -> Size
@@ -115,15 +101,13 @@ pub fn row_E(bs: &[u8], byte: bool, b: u8) -> Answer
     let z = size_E(byte, decimal);
     let w = answer::width_of(byte);
     let to = to_E(byte, decimal, n);
-    if is_immediate(n) {
+    // an immediate is operand 0
+    if (n < 4) | (11 <= n) {
         let name = numbers::immediate_name(byte);
-        match numbers::immediate(bs, byte, answer::BEGIN) {
-            Got::Short => answer::refuse(refusal::EXHAUSTED_INPUT, bs.len()),
-            Got::On(s) => answer::accept(o, z, w, name, to, false, s),
-        }
-    } else {
-        answer::accept(o, z, w, from_E(byte, decimal), to, false, answer::BEGIN)
+        let got = numbers::immediate(bs, byte, answer::BEGIN);
+        return answer::finish(bs, got, o, z, w, name, to, false);
     }
+    answer::accept(o, z, w, from_E(byte, decimal), to, false, answer::BEGIN)
 }
 
 // LDCTX and STCTX: two bytes, then three.
@@ -132,17 +116,19 @@ pub fn load_context(bs: &[u8], byte: bool, o: Opcode) -> Answer
 {
     match numbers::disp_word(bs, answer::BEGIN) {
         Got::Short => answer::refuse(refusal::EXHAUSTED_INPUT, bs.len()),
-        Got::On(s) => match numbers::long20(bs, s) {
-            Got::Short => answer::refuse(refusal::EXHAUSTED_INPUT, bs.len()),
-            Got::On(t) => answer::accept(
+        Got::On(s) => {
+            let got = numbers::long20(bs, s);
+            let w = answer::width_of(byte);
+            answer::finish(
+                bs,
+                got,
                 o,
                 Size::None,
-                answer::width_of(byte),
+                w,
                 Operand::Abs16,
                 Operand::Abs20,
                 false,
-                t,
-            ),
-        },
+            )
+        }
     }
 }

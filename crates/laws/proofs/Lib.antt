@@ -1,5 +1,7 @@
+pub mod Agree
+pub mod Any
 pub mod Choice
 pub mod Range
-pub mod Table
 pub mod Rest
 pub mod Over
+pub mod Table

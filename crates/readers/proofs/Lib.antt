@@ -1,1 +1,2 @@
+pub mod Finish
 pub mod Nibble

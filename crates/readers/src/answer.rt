@@ -1,8 +1,9 @@
 ghost use mathlib.Core.Path.{_≡_};
 ghost use Rattle.rows.specs.Rows.{sizeOf};
-ghost use Rattle.rows.specs.Run.{accepted, begun, refusal};
+ghost use Rattle.rows.specs.Run.{accepted, andThen, begun, refusal};
 ghost use Rattle.readers.specs.steps.Width.{widthOf};
 use record::Answer;
+use record::Got;
 use record::Opcode;
 use record::Operand;
 use record::Record;
@@ -64,6 +65,25 @@ pub fn refuse(no: u8, taken: usize) -> Answer
         inst: r,
         taken: taken,
         refusal: no,
+    }
+}
+
+// What a row's last read found makes its record; too few bytes refuse it, with every byte taken.
+pub fn finish(
+    bs: &[u8],
+    got: Got,
+    opcode: Opcode,
+    size: Size,
+    width: Width,
+    op0: Operand,
+    op1: Operand,
+    marked: bool,
+) -> Answer
+    ensures { λ r. ⌜ r ≡ andThen (now (bs .entry)) got (accepted opcode size width op0 op1 marked) ⌝ }
+{
+    match got {
+        Got::Short => refuse(refusal::EXHAUSTED_INPUT, bs.len()),
+        Got::On(s) => accept(opcode, size, width, op0, op1, marked, s),
     }
 }
 

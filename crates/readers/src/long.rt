@@ -38,12 +38,7 @@ pub fn long_name(code: u8) -> Operand
 pub fn long_refused(code: u8) -> bool
     ensures { λ r. ⌜ r ≡ noPair code ⌝ }
 {
-    match code {
-        2 => true,
-        3 => true,
-        5 => true,
-        _ => false,
-    }
+    (code == 2) | (code == 3) | (code == 5)
 }
 
 // J(code): 20 bits at C and D, the rest is as G.

@@ -1,7 +1,7 @@
 -- 74 and 75 as the code takes them apart: by tables of h. (The law that this is document 01's row is in proofs/Table74.)
-use Prim.Native.Nat.{ℕ, _%_}
-use mathlib.Core.Bool.{Bool, true, false}
-use mathlib.Core.List.{[], _∷_}
+use Prim.Native.Nat.{ℕ, zero, suc, _%_}
+use mathlib.Core.Bool.{Bool, false, _||_}
+use mathlib.Core.List.{List, [], _∷_}
 use lib.ListN.{getD}
 use lib.Dec.{ltb, eqb}
 use Rattle.laws.specs.Choice.{pick}
@@ -12,7 +12,7 @@ use Rattle.record.specs.declared.Size.the-variants as size
 use Rattle.record.specs.declared.Width.{Width}
 use Rattle.record.specs.declared.Operand.{Operand}
 use Rattle.record.specs.declared.Operand.the-variants.{Nothing, Abs20, «Disp20_A0», «Deref_A1A0», «Disp8_SP», R1H}
-use Rattle.rows.specs.Row.{Num, disp, imm, imm20, num, Row}
+use Rattle.rows.specs.Row.{Num, disp, imm, imm20, Read, num, Row}
 use Rattle.rows.specs.Codes.{nameG, nameI, sizeI, G, refuse}
 use Rattle.rows.specs.Rows.{sizeOf, badShift}
 
@@ -31,15 +31,22 @@ other74 w h =
 
 -- whether G(n) is operand 0
 abbrev pub first74 : ℕ → Bool
-first74 h = pick (ltb h 6) true (pick (eqb h 7) true (eqb h 13))
+first74 h = (ltb h 6 || eqb h 7) || eqb h 13
 
 -- what is read behind G(n)
 abbrev pub rest74 : Width → ℕ → Num
 rest74 w h = pick (ltb (h % 8) 2) imm20 (pick (eqb h 11) (disp 1) (pick (eqb h 12) (imm (sizeI w)) (disp 0)))
 
+-- as a row lists it: no read where no byte is read
+abbrev pub readsOf : Num → List Read
+readsOf (disp zero) = []
+readsOf (disp (suc n)) = num (disp (suc n)) ∷ []
+readsOf (imm n) = num (imm n) ∷ []
+readsOf imm20 = num imm20 ∷ []
+
 -- ROT, SHL, SHA
 abbrev pub shift74 : ℕ → Bool
-shift74 h = pick (eqb h 6) true (pick (eqb h 14) true (eqb h 15))
+shift74 h = (eqb h 6 || eqb h 14) || eqb h 15
 
 abbrev pub stop74 : Width → ℕ → ℕ → Bool
 stop74 w h n = pick (shift74 h) (badShift w n) false
@@ -55,5 +62,5 @@ table74 w h n = record {
     marked = eqb h 3;
   };
   number = 0;
-  reads = refuse (stop74 w h n) (G n ∷ num (rest74 w h) ∷ []);
+  reads = refuse (stop74 w h n) (G n ∷ readsOf (rest74 w h));
 }

@@ -1,6 +1,6 @@
 -- Parts of 7C as the code takes them. (The laws that these are document 01's rows are in proofs/Table7C.)
 use Prim.Native.Nat.{ℕ, _%_}
-use mathlib.Core.Bool.{Bool, true, false}
+use mathlib.Core.Bool.{Bool, true, false, not, _&&_, _||_}
 use mathlib.Core.List.{[], _∷_}
 use lib.ListN.{getD}
 use lib.Dec.{ltb, eqb}
@@ -14,11 +14,11 @@ use Rattle.rows.specs.Rows.{bare, starIf, exchanged}
 
 -- not R0L, A0, A1
 abbrev pub meantBy : ℕ → Bool
-meantBy n = pick (eqb n 0) false (pick (eqb n 4) false (pick (eqb n 5) false true))
+meantBy n = not ((eqb n 0 || eqb n 4) || eqb n 5)
 
 -- MOVLL and the like, by h mod 4
 abbrev pub nibbleMark : ℕ → ℕ → Bool
-nibbleMark h n = pick (getD (false ∷ true ∷ true ∷ false ∷ []) (h % 4) false) (exchanged n) false
+nibbleMark h n = getD (false ∷ true ∷ true ∷ false ∷ []) (h % 4) false && exchanged n
 
 unfoldable pub nibble : ℕ → ℕ → Row
 nibble h n =
@@ -27,4 +27,4 @@ nibble h n =
 
 -- the destinations that EXTS.B has not
 abbrev pub noExts : ℕ → Bool
-noExts n = pick (eqb n 1) true (pick (eqb n 3) true (pick (eqb n 4) true (eqb n 5)))
+noExts n = ((eqb n 1 || eqb n 3) || eqb n 4) || eqb n 5

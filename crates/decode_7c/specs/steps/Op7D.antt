@@ -1,6 +1,6 @@
 -- Parts of 7D as the code takes them. (The laws that these are document 01's rows are in proofs/Table7D.)
 use Prim.Native.Nat.{ℕ, _+_, _%_}
-use mathlib.Core.Bool.{Bool, true}
+use mathlib.Core.Bool.{Bool, _||_}
 use mathlib.Core.List.{[], _∷_}
 use lib.ListN.{getD}
 use lib.Dec.{ltb, leb, eqb}
@@ -22,8 +22,8 @@ abbrev pub signed3 : ℕ → ℕ
 signed3 n = pick (ltb n 4) n (0xFFFFFFF8 + n)
 
 -- the codes that name no condition
-unfoldable pub noCondition : ℕ → Bool
-noCondition n = pick (eqb n 11) true (eqb n 15)
+abbrev pub noCondition : ℕ → Bool
+noCondition n = eqb n 11 || eqb n 15
 
 -- the jumps from code 8 on, and the conditions
 abbrev pub jumpAt : ℕ → Opcode
@@ -34,4 +34,4 @@ conditionBy n = getD (BMGEU ∷ BMGTU ∷ BMEQ ∷ BMN ∷ BMLTU ∷ BMLEU ∷ B
 
 -- GE, NO, LT
 abbrev pub markedBy : ℕ → Bool
-markedBy n = pick (eqb n 10) true (pick (eqb n 13) true (eqb n 14))
+markedBy n = (eqb n 10 || eqb n 13) || eqb n 14

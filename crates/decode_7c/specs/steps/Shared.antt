@@ -1,6 +1,6 @@
 -- What 7C and 7D have together, as the code takes it apart. (The law that h = E is document 01's row is in proofs/Table7C7D.)
 use Prim.Native.Nat.{ℕ, _%_}
-use mathlib.Core.Bool.{Bool, true, false}
+use mathlib.Core.Bool.{Bool, true, false, _||_}
 use mathlib.Core.List.{[], _∷_}
 use lib.ListN.{getD}
 use lib.Dec.{ltb, leb, eqb}
@@ -29,7 +29,7 @@ decimalE n = leb 4 (n % 8)
 
 -- an immediate is operand 0
 abbrev pub immediateE : ℕ → Bool
-immediateE n = pick (ltb n 4) true (leb 11 n)
+immediateE n = ltb n 4 || leb 11 n
 
 abbrev pub sizeE : Bool → Width → Size
 sizeE true w = size.None

@@ -2,9 +2,10 @@
 -- Assumes nothing.
 use mathlib.Core.Path.{refl}
 use borrow.Author.Needs.{needs}
-use Rattle.rows.proofs.Steps.{ends, goes, done}
-use Rattle.rows.specs.Run.{runRow}
 use Rattle.rows.specs.Rows.{row}
+use Rattle.rows.specs.Run.{runRow}
+use Rattle.rows.proofs.Steps.{ends, goes}
+use Rattle.readers.proofs.Finish.{ended}
 use Rattle.decode_74.specs.steps.Op76.{both76}
 use Rattle.decode_74.proofs.op76.both_76.Statement.{statement}
 use Rattle.decode_74.proofs.op76.both_76.Tie as tie
@@ -15,12 +16,13 @@ returns c = ends _ _ _ _ (c .before .before .before .general .ensures) _ (c .bef
 
 returns-2 : tie.Need-returns-2
 unfolding runRow row both76
-returns-2 c = goes _ _ _ _ (c .before .before .before .before .before .before .before .general .ensures) _ (c .before .before .before .before .before .s .given .1) (ends _ _ _ _ (c .before .before .before .immediate .ensures) _ (c .before .enum-told2 .given .1) (c .refuse2 .ensures))
-
-returns-3 : tie.Need-returns-3
-unfolding runRow row both76
-returns-3 c = goes _ _ _ _ (c .before .before .before .before .before .before .before .before .before .before .before .general .ensures) _ (c .before .before .before .before .before .before .before .before .before .s .given .1) (goes _ _ _ _ (c .before .before .before .before .before .before .before .immediate .ensures) _ (c .before .before .before .before .before .t .given .1)
-    (done _ _ _ (c .accept .ensures) refl (c .before .before .before .size-of .ensures) (c .before .before .width-of .ensures) (c .before .immediate-name .ensures) (c .before .before .before .before .before .before .before .before .before .before .before .before .before .general-name .ensures) refl))
+returns-2 c = let g = c .before .before .before .before .before .before .before .before in
+    goes _ _ _ _ (g .general .ensures) _ (c .before .before .before .before .before .before .s .given .1)
+    (ended _ _ _ _ (c .before .before .before .before .immediate .ensures) (c .finish .ensures) refl (c .before .before .before .size-of .ensures)
+    (c .before .before .width-of .ensures) (c .before .immediate-name .ensures) (g .before .before .general-name .ensures) refl)
 
 pub both-76-spec : {M : Type 1} → statement M
-both-76-spec = tie.close (tie.spec (λ c κs. search needs) (λ c. search needs) (λ c. search needs) (λ c κs. search needs) (λ c. search needs) (λ c κs. search needs) (λ c. search needs) (λ c κs. search needs) (λ c. search needs) (λ c κs. search needs) (λ c. search needs) (λ c κs. search needs) (λ c κs. search needs) (λ c κs. search needs) (λ c κs. search needs) returns returns-2 returns-3)
+both-76-spec =
+    tie.close
+    (tie.spec (λ c κs. search needs) (λ c. search needs) (λ c. search needs) (λ c κs. search needs) (λ c. search needs) (λ c κs. search needs) (λ c. search needs)
+    (λ c κs. search needs) (λ c κs. search needs) (λ c κs. search needs) (λ c κs. search needs) (λ c κs. search needs) returns returns-2)

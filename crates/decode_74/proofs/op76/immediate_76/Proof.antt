@@ -2,20 +2,20 @@
 -- Assumes nothing.
 use mathlib.Core.Path.{refl}
 use borrow.Author.Needs.{needs}
-use Rattle.rows.proofs.Steps.{ends, goes, done}
-use Rattle.rows.specs.Run.{runRow}
 use Rattle.rows.specs.Rows.{row}
+use Rattle.rows.specs.Run.{runRow}
+use Rattle.readers.proofs.Finish.{ended}
 use Rattle.decode_74.specs.steps.Op76.{immediate76}
 use Rattle.decode_74.proofs.op76.immediate_76.Statement.{statement}
 use Rattle.decode_74.proofs.op76.immediate_76.Tie as tie
 
 returns : tie.Need-returns
 unfolding runRow row immediate76
-returns c = ends _ _ _ _ (c .before .before .before .immediate .ensures) _ (c .before .enum-told .given .1) (c .refuse .ensures)
-
-returns-2 : tie.Need-returns-2
-unfolding runRow row immediate76
-returns-2 c = goes _ _ _ _ (c .before .before .before .before .before .before .before .immediate .ensures) _ (c .before .before .before .before .before .s .given .1) (done _ _ _ (c .accept .ensures) refl (c .before .before .before .size-of .ensures) (c .before .before .width-of .ensures) (c .before .immediate-name .ensures) refl refl)
+returns c = ended _ _ _ _ (c .before .before .before .before .immediate .ensures) (c .finish .ensures) refl
+    (c .before .before .before .size-of .ensures) (c .before .before .width-of .ensures) (c .before .immediate-name .ensures) refl refl
 
 pub immediate-76-spec : {M : Type 1} → statement M
-immediate-76-spec = tie.close (tie.spec (λ c. search needs) (λ c. search needs) (λ c κs. search needs) (λ c. search needs) (λ c κs. search needs) (λ c. search needs) (λ c κs. search needs) (λ c κs. search needs) (λ c κs. search needs) (λ c κs. search needs) returns returns-2)
+immediate-76-spec =
+    tie.close
+    (tie.spec (λ c. search needs) (λ c. search needs) (λ c κs. search needs) (λ c κs. search needs) (λ c κs. search needs) (λ c κs. search needs) (λ c κs. search needs)
+    returns)

@@ -5,14 +5,15 @@ use borrow.Author.Tests.{eq-eqb, ne-eqb}
 use borrow.Author.Needs.{needs}
 use Rattle.rows.proofs.Steps.{ends, goes, stops, done}
 use Rattle.rows.specs.Run.{runRow}
-use Rattle.rows.specs.Rows.{row}
 use Rattle.rows.specs.Row.{InvalidOperand}
+use Rattle.rows.specs.Rows.{row}
 use Rattle.decode_74.proofs.op7A.load_control.Statement.{statement}
 use Rattle.decode_74.proofs.op7A.load_control.Tie as tie
 
 returns : tie.Need-returns
 unfolding runRow row
-returns c = goes _ _ _ _ (c .before .before .before .before .before .general .ensures) _ (c .before .before .before .s .given .1) (rw (eq-eqb _ 0 (c .before .if1 .taken)) (stops InvalidOperand _ _ _ _ (c .refuse2 .ensures)))
+returns c = goes _ _ _ _ (c .before .before .before .before .before .general .ensures) _ (c .before .before .before .s .given .1)
+    (rw (eq-eqb _ 0 (c .before .if1 .taken)) (stops InvalidOperand _ _ _ _ (c .refuse2 .ensures)))
 
 returns-2 : tie.Need-returns-2
 unfolding runRow row
@@ -20,7 +21,12 @@ returns-2 c = ends _ _ _ _ (c .before .before .before .general .ensures) _ (c .b
 
 returns-3 : tie.Need-returns-3
 unfolding runRow row
-returns-3 c = goes _ _ _ _ (c .before .before .before .before .before .general .ensures) _ (c .before .before .before .s .given .1) (rw (ne-eqb _ 0 (c .before .if1 .left)) (done _ _ _ (c .accept .ensures) refl refl refl (c .before .before .before .before .before .before .before .general-name .ensures) (c .before .before .before .before .before .before .control-name .ensures) refl))
+returns-3 c = let g = c .before .before .before .before .before in
+    goes _ _ _ _ (g .general .ensures) _ (c .before .before .before .s .given .1)
+    (rw (ne-eqb _ 0 (c .before .if1 .left)) (done _ _ _ (c .accept .ensures) refl refl refl (g .before .before .general-name .ensures) (g .before .control-name .ensures) refl))
 
 pub load-control-spec : {M : Type 1} → statement M
-load-control-spec = tie.close (tie.spec (λ c κs. search needs) (λ c κs. search needs) (λ c κs. search needs) (λ c. search needs) (λ c κs. search needs) (λ c. search needs) (λ c κs. search needs) returns (λ c κs. search needs) returns-2 returns-3)
+load-control-spec =
+    tie.close
+    (tie.spec (λ c κs. search needs) (λ c κs. search needs) (λ c κs. search needs) (λ c. search needs) (λ c κs. search needs) (λ c. search needs) (λ c κs. search needs)
+    returns (λ c κs. search needs) returns-2 returns-3)

@@ -17,10 +17,12 @@ returns-3 : tie.Need-returns-3
 returns-3 c = fails _ _ _ _ (c .before .before .before .before .before .if1 .left) (between _ (c .before .before .if2 .left) (c .before .if3 .taken)) (c .refuse2 .ensures)
 
 returns-4 : tie.Need-returns-4
-returns-4 c = holds _ _ _ _ (c .before .before .before .before .before .before .if1 .left) (high _ (c .before .before .if3 .left) (c .before .if4 .taken)) (done _ _ _ (c .accept2 .ensures) refl refl refl refl refl refl)
+returns-4 c = holds _ _ _ _ (c .before .before .before .before .before .before .if1 .left)
+    (high _ (c .before .before .if3 .left) (c .before .if4 .taken)) (done _ _ _ (c .accept2 .ensures) refl refl refl refl refl refl)
 
 returns-5 : tie.Need-returns-5
 returns-5 c = fails _ _ _ _ (c .before .before .before .before .before .before .if1 .left) (last _ (c .before .if4 .left)) (c .refuse3 .ensures)
 
 pub conditional-spec : {M : Type 1} → statement M
-conditional-spec = tie.close (tie.spec (λ c κs. search needs) returns (λ c. search needs) (λ c. search needs) (λ c. search needs) (λ c. search needs) (λ c κs. search needs) returns-2 (λ c. search needs) (λ c κs. search needs) returns-3 (λ c κs. search needs) returns-4 (λ c. search needs) (λ c κs. search needs) returns-5)
+conditional-spec = tie.close (tie.spec (λ c κs. search needs) returns (λ c. search needs) (λ c. search needs) (λ c. search needs) (λ c. search needs)
+    (λ c κs. search needs) returns-2 (λ c. search needs) (λ c κs. search needs) returns-3 (λ c κs. search needs) returns-4 (λ c. search needs) (λ c κs. search needs) returns-5)

@@ -3,10 +3,11 @@
 use Prim.Native.Nat.{_%_}
 use mathlib.Core.Path.{refl, sym, _∙_}
 use borrow.Author.Needs.{needs}
-use Rattle.rows.proofs.Steps.{ends, goes, stops, done}
-use Rattle.rows.specs.Run.{runRow}
 use Rattle.rows.specs.Rows.{row}
 use Rattle.rows.specs.Row.{InvalidOperand}
+use Rattle.rows.specs.Run.{runRow}
+use Rattle.rows.proofs.Steps.{stops}
+use Rattle.readers.proofs.Finish.{ended}
 use Rattle.decode_7c.proofs.Table7C.{paired}
 use Rattle.decode_7c.proofs.op7C.extend_pair.Statement.{statement}
 use Rattle.decode_7c.proofs.op7C.extend_pair.Tie as tie
@@ -17,11 +18,11 @@ returns c = rw (sym (c .before .before .long-refused .ensures) ∙ c .before .if
 
 returns-2 : tie.Need-returns-2
 unfolding runRow row
-returns-2 c = rw (sym (c .before .before .before .before .before .before .long-refused .ensures) ∙ c .before .before .before .before .before .if1 .left) (ends _ _ _ _ (c .before .before .before .general .ensures) _ (c .before .enum-told .given .1) (c .refuse2 .ensures))
-
-returns-3 : tie.Need-returns-3
-unfolding runRow row
-returns-3 c = rw (sym (c .before .before .before .before .before .before .before .long-refused .ensures) ∙ c .before .before .before .before .before .before .if1 .left) (goes _ _ _ _ (c .before .before .before .before .general .ensures) _ (c .before .before .s .given .1) (done _ _ _ (c .accept .ensures) refl refl refl (paired (c .before .before .before .before .before .before .before .before .before .args .b % 16) (search needs)) refl refl))
+returns-2 c = let s = c .before .before .before .before .before .before in
+    rw (sym (c .before .before .before .before .long-refused .ensures) ∙ c .before .before .before .if1 .left)
+    (ended _ _ _ _ (c .before .general .ensures) (c .finish .ensures) refl refl refl (paired (s .args .b % 16) (search needs)) refl refl)
 
 pub extend-pair-spec : {M : Type 1} → statement M
-extend-pair-spec = tie.close (tie.spec (λ c κs. search needs) (λ c κs. search needs) returns (λ c. search needs) (λ c. search needs) (λ c κs. search needs) (λ c. search needs) (λ c κs. search needs) (λ c. search needs) (λ c κs. search needs) returns-2 returns-3)
+extend-pair-spec =
+    tie.close
+    (tie.spec (λ c κs. search needs) (λ c κs. search needs) returns (λ c. search needs) (λ c. search needs) (λ c κs. search needs) (λ c κs. search needs) returns-2)

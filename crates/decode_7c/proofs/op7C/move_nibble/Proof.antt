@@ -3,24 +3,27 @@
 use mathlib.Core.Path.{refl}
 use borrow.Author.Tests.{lt-ltb, le-ltb}
 use borrow.Author.Needs.{needs}
-use Rattle.rows.proofs.Steps.{ends, goes, done}
-use Rattle.rows.specs.Run.{runRow}
 use Rattle.rows.specs.Rows.{row}
+use Rattle.rows.specs.Run.{runRow}
+use Rattle.readers.proofs.Finish.{ended}
 use Rattle.decode_7c.specs.steps.Op7C.{nibble}
 use Rattle.decode_7c.proofs.op7C.move_nibble.Statement.{statement}
 use Rattle.decode_7c.proofs.op7C.move_nibble.Tie as tie
 
 returns : tie.Need-returns
 unfolding runRow row nibble
-returns c = rw (lt-ltb _ 4 (c .before .if1 .taken)) (goes _ _ _ _ (c .before .before .before .before .before .general .ensures) _ (c .before .before .before .s .given .1) (done _ _ _ (c .accept .ensures) refl refl refl (c .before .before .before .before .before .before .before .before .general-name .ensures) refl (c .before .before .before .before .before .before .nibble-mark .ensures)))
+returns c = rw (lt-ltb _ 4 (c .before .if1 .taken))
+    (ended _ _ _ _ (c .before .before .general .ensures) (c .finish .ensures) refl refl refl
+    (c .before .before .before .before .before .general-name .ensures) refl (c .before .before .before .nibble-mark .ensures))
 
 returns-2 : tie.Need-returns-2
 unfolding runRow row nibble
-returns-2 c = ends _ _ _ _ (c .before .before .before .general .ensures) _ (c .before .enum-told .given .1) (c .refuse .ensures)
-
-returns-3 : tie.Need-returns-3
-unfolding runRow row nibble
-returns-3 c = rw (le-ltb _ 4 (c .before .if1 .left)) (goes _ _ _ _ (c .before .before .before .before .before .general .ensures) _ (c .before .before .before .s .given .1) (done _ _ _ (c .accept2 .ensures) refl refl refl refl (c .before .before .before .before .before .before .before .before .general-name .ensures) (c .before .before .before .before .before .before .nibble-mark .ensures)))
+returns-2 c = rw (le-ltb _ 4 (c .before .if1 .left))
+    (ended _ _ _ _ (c .before .before .general .ensures) (c .finish2 .ensures) refl refl refl refl
+    (c .before .before .before .before .before .general-name .ensures) (c .before .before .before .nibble-mark .ensures))
 
 pub move-nibble-spec : {M : Type 1} → statement M
-move-nibble-spec = tie.close (tie.spec (λ c κs. search needs) (λ c. search needs) (λ c. search needs) (λ c κs. search needs) (λ c κs. search needs) (λ c. search needs) (λ c κs. search needs) (λ c. search needs) (λ c κs. search needs) returns (λ c κs. search needs) returns-2 returns-3)
+move-nibble-spec =
+    tie.close
+    (tie.spec (λ c κs. search needs) (λ c. search needs) (λ c. search needs) (λ c κs. search needs) (λ c κs. search needs) (λ c κs. search needs) returns
+    (λ c κs. search needs) returns-2)

@@ -28,7 +28,8 @@ returns-4 c = rw (c .before .match .keys4) (done _ _ _ (c .accept2 .ensures) ref
 
 returns-5 : tie.Need-returns-5
 unfolding runRow row
-returns-5 c = let r = c .before .match .rest in rw (past-F (c .before .before .before .args .b % 16) (search needs) (r .0 .0 .0 .1) (r .0 .0 .1) (r .0 .1) (r .1)) (stops InvalidOpcode _ _ _ _ (c .refuse .ensures))
+returns-5 c = rw (past-F (c .before .before .before .args .b % 16) (search needs) (c .before .match .rest)) (stops InvalidOpcode _ _ _ _ (c .refuse .ensures))
 
 pub row-F-spec : {M : Type 1} → statement M
-row-F-spec = tie.close (tie.spec (λ c κs. search needs) (λ c κs. search needs) (λ c κs. search needs) (λ c κs. search needs) (λ c κs. search needs) returns returns-2 returns-3 returns-4 returns-5)
+row-F-spec = tie.close (tie.spec (λ c κs. search needs) (λ c κs. search needs) (λ c κs. search needs)
+    (λ c κs. search needs) (λ c κs. search needs) returns returns-2 returns-3 returns-4 returns-5)

@@ -57,8 +57,11 @@ returns-10 c = rw (c .before .match .keys9) (c .row-F .ensures)
 
 returns-11 : tie.Need-returns-11
 unfolding runRow row
-returns-11 c = let r = c .before .match .rest in
-    rw (others _ (c .before .before .before .before .args .b / 16) (omega arith) (r .0 .0 .0 .0 .0 .0 .0 .0 .1) (r .0 .0 .0 .0 .0 .0 .0 .1) (r .0 .0 .0 .0 .0 .0 .1) (r .0 .0 .0 .0 .0 .1) (r .0 .0 .0 .0 .1) (r .0 .0 .0 .1) (r .0 .0 .1) (r .0 .1) (r .1), le-ltb _ 4 (c .before .before .if1 .left)) (stops InvalidOpcode _ _ _ _ (c .refuse .ensures))
+returns-11 c =
+    rw (others _ (c .before .before .before .before .args .b / 16) (omega arith) (c .before .match .rest), le-ltb _ 4 (c .before .before .if1 .left))
+    (stops InvalidOpcode _ _ _ _ (c .refuse .ensures))
 
 pub decode-op7D-spec : {M : Type 1} → statement M
-decode-op7D-spec = tie.close (tie.spec (λ c κs. search needs) returns (λ c κs. search needs) (λ c κs. search needs) (λ c κs. search needs) (λ c κs. search needs) (λ c κs. search needs) (λ c κs. search needs) (λ c κs. search needs) (λ c κs. search needs) (λ c κs. search needs) (λ c κs. search needs) returns-2 returns-3 returns-4 returns-5 returns-6 returns-7 returns-8 returns-9 returns-10 returns-11)
+decode-op7D-spec = tie.close (tie.spec (λ c κs. search needs) returns (λ c κs. search needs) (λ c κs. search needs) (λ c κs. search needs) (λ c κs. search needs)
+    (λ c κs. search needs) (λ c κs. search needs) (λ c κs. search needs) (λ c κs. search needs) (λ c κs. search needs)
+    (λ c κs. search needs) returns-2 returns-3 returns-4 returns-5 returns-6 returns-7 returns-8 returns-9 returns-10 returns-11)

@@ -39,8 +39,10 @@ returns-7 c = rw (c .before .match .keys6) (c .nothing-set2 .ensures _)
 
 returns-8 : tie.Need-returns-8
 unfolding runRow row
-returns-8 c = let r = c .before .match .rest in
-    rw (others _ (c .before .before .before .before .args .b % 16) (search needs) (r .0 .0 .0 .0 .0 .1) (r .0 .0 .0 .0 .1) (r .0 .0 .0 .1) (r .0 .0 .1) (r .0 .1) (r .1), lt-leb _ _ (c .before .before .if1 .left)) (stops InvalidOperand _ _ _ _ (c .refuse .ensures))
+returns-8 c =
+    rw (others _ (c .before .before .before .before .args .b % 16) (search needs) (c .before .match .rest), lt-leb _ _ (c .before .before .if1 .left))
+    (stops InvalidOperand _ _ _ _ (c .refuse .ensures))
 
 pub row-low-spec : {M : Type 1} → statement M
-row-low-spec = tie.close (tie.spec (λ c κs. search needs) returns (λ c κs. search needs) (λ c κs. search needs) (λ c κs. search needs) (λ c κs. search needs) (λ c κs. search needs) (λ c κs. search needs) (λ c κs. search needs) returns-2 returns-3 returns-4 returns-5 returns-6 returns-7 returns-8)
+row-low-spec = tie.close (tie.spec (λ c κs. search needs) returns (λ c κs. search needs) (λ c κs. search needs) (λ c κs. search needs) (λ c κs. search needs)
+    (λ c κs. search needs) (λ c κs. search needs) (λ c κs. search needs) returns-2 returns-3 returns-4 returns-5 returns-6 returns-7 returns-8)

@@ -2,9 +2,10 @@
 -- Assumes nothing.
 use mathlib.Core.Path.{refl}
 use borrow.Author.Needs.{needs}
-use Rattle.rows.proofs.Steps.{ends, goes, done}
-use Rattle.rows.specs.Run.{runRow}
+use Rattle.rows.proofs.Steps.{ends, goes}
 use Rattle.rows.specs.Rows.{row}
+use Rattle.rows.specs.Run.{runRow}
+use Rattle.readers.proofs.Finish.{ended}
 use Rattle.decode_7c.proofs.shared.load_context.Statement.{statement}
 use Rattle.decode_7c.proofs.shared.load_context.Tie as tie
 
@@ -14,11 +15,11 @@ returns c = ends _ _ _ _ (c .before .before .before .disp-word .ensures) _ (c .b
 
 returns-2 : tie.Need-returns-2
 unfolding runRow row
-returns-2 c = goes _ _ _ _ (c .before .before .before .before .before .before .before .disp-word .ensures) _ (c .before .before .before .before .before .s .given .1) (ends _ _ _ _ (c .before .before .before .long20 .ensures) _ (c .before .enum-told2 .given .1) (c .refuse2 .ensures))
-
-returns-3 : tie.Need-returns-3
-unfolding runRow row
-returns-3 c = goes _ _ _ _ (c .before .before .before .before .before .before .before .before .before .disp-word .ensures) _ (c .before .before .before .before .before .before .before .s .given .1) (goes _ _ _ _ (c .before .before .before .before .before .long20 .ensures) _ (c .before .before .before .t .given .1) (done _ _ _ (c .accept .ensures) refl refl (c .before .width-of .ensures) refl refl refl))
+returns-2 c = goes _ _ _ _ (c .before .before .before .before .before .before .disp-word .ensures) _ (c .before .before .before .before .s .given .1)
+    (ended _ _ _ _ (c .before .before .long20 .ensures) (c .finish .ensures) refl refl (c .before .width-of .ensures) refl refl refl)
 
 pub load-context-spec : {M : Type 1} → statement M
-load-context-spec = tie.close (tie.spec (λ c κs. search needs) (λ c. search needs) (λ c κs. search needs) (λ c. search needs) (λ c κs. search needs) (λ c. search needs) (λ c κs. search needs) (λ c. search needs) (λ c κs. search needs) (λ c κs. search needs) returns returns-2 returns-3)
+load-context-spec =
+    tie.close
+    (tie.spec (λ c κs. search needs) (λ c. search needs) (λ c κs. search needs) (λ c. search needs) (λ c κs. search needs) (λ c κs. search needs) (λ c κs. search needs)
+    returns returns-2)

@@ -16,4 +16,5 @@ returns-3 : tie.Need-returns-3
 returns-3 c = long _ _ (omega arith) (c .three .ensures)
 
 pub long20-spec : {M : Type 1} → statement M
-long20-spec = tie.close (tie.spec returns (λ c. search needs) returns-2 (λ c. search needs) (λ c. search needs) (λ c. search needs) (λ c. search needs) (λ c. search needs) (λ c κs. search needs) (λ c. search needs) returns-3)
+long20-spec = tie.close (tie.spec returns (λ c. search needs) returns-2 (λ c. search needs) (λ c. search needs)
+    (λ c. search needs) (λ c. search needs) (λ c. search needs) (λ c κs. search needs) (λ c. search needs) returns-3)
