@@ -7,22 +7,23 @@ use Rattle.record.specs.Same.{sameName, among, fieldOf}
 use Rattle.rows.specs.Rows.{known, rowsOf}
 use Rattle.rows.specs.Codes.{condOf}
 use Rattle.rows.specs.Run.{decodeBy, runRow, run, readDisp, readImm}
+use Rattle.sweep.specs.Walk.{stepAt, go, walk}
 use Rattle.line.specs.Characters.{spelled, digit}
 use Rattle.line.specs.Names.{opcodeNames, opcodeName, operandNames, operandName}
 use Rattle.line.specs.Line.{digitsOf, shown, fromWidth, lineOf}
-use Rattle.listing.specs.Listing.{go, listing}
+use Rattle.listing.specs.Listing.{listing}
 
 pub document : listing (0x74 ∷ 0x0F ∷ 0x34 ∷ 0x12 ∷ 0x89 ∷ 0x67 ∷ 0xF5 ∷ 0x7D ∷ 0xC8 ∷ 0x05 ∷ 0xEB ∷ 0xC5 ∷ 0x7E ∷ 0xE0 ∷ [])
     ≡ spelled "0000 7 B STE Abs16=1234 Abs20=56789\n0007 3 W JLE Disp8=05\n000A 2 - INT Imm8=05\n000C REFUSED 2 TAKEN 2\n"
-unfolding listing go decodeBy runRow run readDisp readImm condOf known rowsOf sameName among fieldOf digit opcodeNames opcodeName operandNames operandName digitsOf shown fromWidth lineOf
+unfolding listing walk go stepAt decodeBy runRow run readDisp readImm condOf known rowsOf sameName among fieldOf digit opcodeNames opcodeName operandNames operandName digitsOf shown fromWidth lineOf
 document = refl
 
 pub empty : listing [] ≡ spelled "END 0000\n"
-unfolding listing go digit
+unfolding listing walk go stepAt digit
 empty = refl
 
 pub marked : listing (0x74 ∷ 0x38 ∷ 0x10 ∷ []) ≡ spelled "0000 3 B MOV.B Disp8_A0=00 Disp8_SP=10\nEND 0003\n"
-unfolding listing go decodeBy runRow run readDisp readImm condOf known rowsOf sameName among fieldOf digit opcodeNames opcodeName operandNames operandName digitsOf shown fromWidth lineOf
+unfolding listing walk go stepAt decodeBy runRow run readDisp readImm condOf known rowsOf sameName among fieldOf digit opcodeNames opcodeName operandNames operandName digitsOf shown fromWidth lineOf
 marked = refl
 
 pub too-long : listing (replicate 4097 0) ≡ spelled "REFUSED 7\n"

@@ -1,5 +1,4 @@
-pub mod Closed
-pub mod Turns
+pub mod Lines
 pub mod Pages
 pub mod Bench
 pub mod Starts

@@ -11,7 +11,7 @@ use Rattle.line.specs.Left.{over}
 use Rattle.line.proofs.Over.{lent}
 use Rattle.listing.specs.declared.page.Next.{Next}
 use Rattle.listing.specs.Listing.{listing}
-use Rattle.listing.specs.Page.{toList, Paged, none, more}
+use Rattle.listing.specs.steps.Page.{toList, Paged, none, more}
 
 module _ (at : ℕ) (l xs : List ℕ) {n : ℕ} {ys : List ℕ} (h : at + length xs ≤ length l)
     (put : (n ≡ length xs) × (ys ≡ over xs (take (length l - at) (drop at l)))) where

@@ -1,3 +1,2 @@
 pub mod Listing
-pub mod Page
-pub mod Starts
+pub mod steps

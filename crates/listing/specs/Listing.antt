@@ -1,30 +1,32 @@
--- Document 01, "Bench lines": the whole text of an image's listing, a line for each instruction of the sweep, and one for where it stops.
-use Prim.Native.Nat.{ℕ, zero, suc, _+_, _-_}
+-- Document 01, "Bench lines": the whole text of an image's listing, a line for each place that the sweep visits.
+use Prim.Native.Nat.{ℕ}
 use mathlib.Core.List.{List, _++_}
-use lib.ListN.{length, drop}
-use lib.Dec.{ltb, leb, eqb}
+use lib.ListN.{length}
+use lib.Dec.{ltb}
 use Rattle.laws.specs.Choice.{pick}
-use Rattle.record.specs.declared.Answer.{Answer}
 use Rattle.rows.specs.Run.{decodeRows}
+use Rattle.sweep.specs.declared.step.Step.{Step}
+use Rattle.sweep.specs.declared.step.Step.the-variants.{End, Accepted, Refused}
+use Rattle.sweep.specs.Walk.{Walk, last, more, stopping, walk}
 use Rattle.line.specs.Characters.{spelled}
 use Rattle.line.specs.Line.{lineOf, endText, refusedText}
 
+abbrev pub stepText : ℕ → Step → List ℕ
+stepText p End = endText p
+stepText p (Accepted r t) = lineOf p r
+stepText p (Refused e t) = refusedText p e t
+
 -- with its newline
-abbrev pub ended : List ℕ → List ℕ
-ended xs = xs ++ spelled "\n"
+abbrev pub lineAt : ℕ → Step → List ℕ
+lineAt p s = stepText p s ++ spelled "\n"
 
--- an accepted place and what is listed from the next on, or a refused place
-abbrev pub turn : ℕ → Answer → (ℕ → List ℕ) → List ℕ
-turn p x next = pick (eqb (x .refusal) 0) (ended (lineOf p (x .inst)) ++ next (p + x .taken)) (ended (refusedText p (x .refusal) (x .taken)))
+abbrev pub textOf : Walk → List ℕ
+textOf (last p s) = lineAt p s
+textOf (more p s w) = lineAt p s ++ textOf w
 
--- from place p, decoding at most so many times
-unfoldable pub go : List ℕ → ℕ → ℕ → List ℕ
-go bs zero p = ended (endText p)
-go bs (suc k) p = pick (leb (length bs) p) (ended (endText p)) (turn p (decodeRows (drop p bs)) (go bs k))
-
--- from place p on: as many times as there are bytes are enough
+-- from place p on
 abbrev pub listed : List ℕ → ℕ → List ℕ
-listed bs p = go bs (length bs - p) p
+listed bs p = textOf (walk decodeRows stopping bs p)
 
 -- the whole listing of a refused image
 abbrev pub tooLongText : List ℕ

@@ -1,14 +1,14 @@
 // A listing in pieces: as many whole lines as fit into a buffer.
 ghost use mathlib.Core.Path.{_≡_};
 ghost use mathlib.Core.List.{List};
-ghost use Prim.Native.Nat.{ℕ, _+_, _≤_, _<_};
-ghost use lib.ListN.{length, set};
-ghost use Rattle.line.specs.Left.{over};
-ghost use Rattle.line.specs.Line.{lineOf, endText, refusedText};
-ghost use Rattle.listing.specs.Listing.{ended, listing};
-ghost use Rattle.listing.specs.Page.{toList, isMore, Filled};
+ghost use Prim.Native.Nat.{ℕ, _≤_};
+ghost use lib.ListN.{length};
+ghost use Rattle.line.specs.Left.{over, Writes};
+ghost use Rattle.listing.specs.Listing.{stepText, lineAt, listing};
+ghost use Rattle.listing.specs.steps.Page.{toList, isMore, Filled};
 use line::Written;
-use record::Record;
+use sweep::step;
+use sweep::step::Step;
 
 // No line is longer, its newline included.
 const ROOM: usize = 113;
@@ -46,38 +46,26 @@ pub fn is_more(next: Next) -> bool
     }
 }
 
-// The newline behind what was written.
-fn close(w: Written, out: &mut [u8]) -> usize
-    requires { ⌜ w .length < length (now out) ⌝ }
-    ensures { λ r. ⌜ (r ≡ w .length + 1) × (now (out .exit) ≡ set (now (out .entry)) (w .length) 10) ⌝ }
+// The text of what stands at a place.
+fn write_step(place: usize, here: Step, out: &mut [u8]) -> Written
+    ensures { λ w. ⌜ Writes (stepText place here) (now (out .entry)) w (now (out .exit)) ⌝ }
 {
+    match here {
+        Step::End => line::end(place, out),
+        Step::Accepted(r, _) => line::line(place, r, out),
+        Step::Refused(refusal, taken) => line::refused(place, refusal, taken, out),
+    }
+}
+
+// The same with its newline.
+fn put_line(place: usize, here: Step, out: &mut [u8]) -> usize
+    requires { ⌜ 113 ≤ length (now out) ⌝ }
+    ensures { λ n. ⌜ (n ≡ length (lineAt place here)) × (now (out .exit) ≡ over (lineAt place here) (now (out .entry))) ⌝ }
+{
+    let w = write_step(place, here, out);
     let n = w.length;
     out[n] = b'\n';
     n + 1
-}
-
-fn put_line(place: usize, r: Record, out: &mut [u8]) -> usize
-    requires { ⌜ 113 ≤ length (now out) ⌝ }
-    ensures { λ n. ⌜ (n ≡ length (ended (lineOf place r))) × (now (out .exit) ≡ over (ended (lineOf place r)) (now (out .entry))) ⌝ }
-{
-    let w = line::line(place, r, out);
-    close(w, out)
-}
-
-fn put_end(place: usize, out: &mut [u8]) -> usize
-    requires { ⌜ 113 ≤ length (now out) ⌝ }
-    ensures { λ n. ⌜ (n ≡ length (ended (endText place))) × (now (out .exit) ≡ over (ended (endText place)) (now (out .entry))) ⌝ }
-{
-    let w = line::end(place, out);
-    close(w, out)
-}
-
-fn put_refused(place: usize, refusal: u8, taken: usize, out: &mut [u8]) -> usize
-    requires { ⌜ 113 ≤ length (now out) ⌝ }
-    ensures { λ n. ⌜ (n ≡ length (ended (refusedText place refusal taken))) × (now (out .exit) ≡ over (ended (refusedText place refusal taken)) (now (out .entry))) ⌝ }
-{
-    let w = line::refused(place, refusal, taken, out);
-    close(w, out)
 }
 
 // What is listed of an image from a place on, as far as whole lines fit.
@@ -87,24 +75,19 @@ fn fill_lines(image: &[u8], from: usize, out: &mut [u8]) -> Page
     let mut at: usize = 0;
     let mut place = from;
     while ROOM <= out.len() - at {
-        if image.len() <= place {
-            let n = put_end(place, &mut out[at..]);
-            return Page {
-                length: at + n,
-                next: Next::Nothing,
-            };
+        let here = step::step_at(image, place);
+        at = at + put_line(place, here, &mut out[at..]);
+        match here {
+            Step::Accepted(_, taken) => {
+                place = place + taken;
+            }
+            Step::End | Step::Refused(_, _) => {
+                return Page {
+                    length: at,
+                    next: Next::Nothing,
+                };
+            }
         }
-        let a = decode::decode(image, place);
-        if a.refusal != 0 {
-            let n = put_refused(place, a.refusal, a.taken, &mut out[at..]);
-            return Page {
-                length: at + n,
-                next: Next::Nothing,
-            };
-        }
-        let inst = a.inst;
-        at = at + put_line(place, inst, &mut out[at..]);
-        place = place + a.taken;
     }
     Page {
         length: at,

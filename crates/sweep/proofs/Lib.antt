@@ -1,3 +1,2 @@
-pub mod Turns
-pub mod Enough
+pub mod Walk
 pub mod Outcomes

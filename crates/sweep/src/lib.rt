@@ -1,5 +1,8 @@
 ghost use Rattle.sweep.specs.Sweep.{Sweeps};
 use record::refusal;
+use step::Step;
+
+pub mod step; // what stands at a place
 
 // How many starts were kept, where decoding stopped, and the refusal there: 0 at the image's end.
 pub struct Swept {
@@ -35,22 +38,26 @@ pub fn sweep(image: &[u8], starts: &mut [u16]) -> Swept
     let mut count: usize = 0;
     let mut place: usize = 0;
     let stopped = loop {
-        if image.len() <= place {
-            break Stopped {
-                refusal: refusal::ACCEPTED,
-                place: place,
-            };
+        let here = step::step_at(image, place);
+        match here {
+            Step::End => {
+                break Stopped {
+                    refusal: refusal::ACCEPTED,
+                    place: place,
+                };
+            }
+            Step::Refused(refusal, _) => {
+                break Stopped {
+                    refusal: refusal,
+                    place: place,
+                };
+            }
+            Step::Accepted(_, taken) => {
+                starts[count] = place as u16;
+                count = count + 1;
+                place = place + taken;
+            }
         }
-        let a = decode::decode(image, place);
-        if a.refusal != 0 {
-            break Stopped {
-                refusal: a.refusal,
-                place: place,
-            };
-        }
-        starts[count] = place as u16;
-        count = count + 1;
-        place = place + a.taken;
     };
     Swept {
         refusal: stopped.refusal,

@@ -1,20 +1,23 @@
 -- `listing::page::fill_lines` meets its contract. The loop's invariant: what is filled, and what is listed from the place on, are what was asked for.
 -- Assumes nothing.
 use Prim.Native.Nat.{ℕ, _+_, _*_, _-_, _≤_}
-use mathlib.Core.Path.{_≡_, refl, _∙_}
-use mathlib.Core.List.{List, [], _++_}
+use mathlib.Core.Path.{_≡_, refl, sym, ap, _∙_}
+use mathlib.Core.List.{List, [], _∷_, _++_}
+use mathlib.Core.Logic.{inl, inr}
 use native.Mathlib.Omega.{arith}
-use lib.ListN.{length, take, drop, length-append, length-drop}
+use lib.ListN.{length, take, length-drop}
+use types.Run.{OneOf}
+use denote.Enum.Declared.{tagOf}
 use borrow.Author.Needs.{needs}
-use Rattle.record.specs.declared.Record.{Record}
-use Rattle.line.specs.Characters.{spelled}
-use Rattle.line.specs.Line.{lineOf, endText, refusedText}
-use Rattle.line.proofs.Lined.{line-short}
 use Rattle.laws.proofs.Rest.{rest}
+use Rattle.sweep.specs.declared.step.Step.{Step}
+use Rattle.sweep.specs.declared.step.Step.the-variants.{End, Accepted, Refused}
+use Rattle.sweep.specs.Walk.{stop, stopping, onward}
+use Rattle.sweep.proofs.Walk.{Told, told, by-rows}
+use Rattle.sweep.proofs.step.Step as declared
 use Rattle.line.proofs.Over.{lent-length}
-use Rattle.sweep.proofs.Turns.{inside}
-use Rattle.listing.specs.Listing.{ended, listed}
-use Rattle.listing.proofs.Turns.{at-end, refused, accepted}
+use Rattle.listing.specs.Listing.{lineAt, listed}
+use Rattle.listing.proofs.Lines.{line-room, from-here}
 use Rattle.listing.proofs.Pages.{line-more, line-last}
 use Rattle.listing.proofs.page.fill_lines.Statement.{statement}
 use Rattle.listing.proofs.page.fill_lines.Tie as tie
@@ -27,90 +30,92 @@ Inv-loop image from out₀ at₀ place₀ out at place =
 abbrev μ-loop : tie.MeasureT-loop
 μ-loop image from out₀ at₀ place₀ out at place = length image - place
 
--- what is lent has room for a line
-lent-room : (at : ℕ) (l : List ℕ) → 113 ≤ length l - at → 113 ≤ length (take (length l - at) (drop at l))
-lent-room at l h = rw (rest at l) (omega (arith, length-drop at l))
-
--- no line is longer than the room asked for
-line-room : (place : ℕ) (r : Record) → length (ended (lineOf place r)) ≤ 113
-line-room place r = omega (arith, length-append (lineOf place r) (spelled "\n"), line-short place r)
-
 loop-holds : tie.Need-loop-holds Inv-loop μ-loop
 loop-holds c = (omega arith, refl, omega arith, omega arith, omega arith, refl)
 
-put-end-requires : tie.Need-put-end-requires Inv-loop μ-loop
-put-end-requires c κs = lent-room (c .before .before .before .loop .at) (c .before .before .before .loop .out) (omega arith)
-
-same-length : tie.Need-same-length Inv-loop μ-loop
-same-length c =
-    let l = c .before .before .before .before .before .before .loop in
-    lent-length (l .at) (l .out) (ended (endText (l .place))) (omega arith) (c .before .before .put-end .ensures .1) ∙ l .inv .1
-
-returns : tie.Need-returns Inv-loop μ-loop
-returns c =
-    let l = c .before .before .before .before .before .before .loop in
-    let n = c .before .before .put-end .ensures in
-    record { same = line-last (l .at) (l .out) (ended (endText (l .place))) (omega arith) n (at-end _ (l .place) (omega arith)) (l .inv .5); inside = omega (arith, n .0); onward = λ h e. omega arith }
-
-put-refused-requires : tie.Need-put-refused-requires Inv-loop μ-loop
-put-refused-requires c κs = lent-room (c .before .before .before .before .before .before .loop .at) (c .before .before .before .before .before .before .loop .out) (omega arith)
-
-same-length-2 : tie.Need-same-length-2 Inv-loop μ-loop
-same-length-2 c =
-    let l = c .before .before .before .before .before .before .before .before .before .loop in
-    let x = c .before .before .before .before .before .before .decode .result in
-    lent-length (l .at) (l .out) (ended (refusedText (l .place) (x .refusal) (x .taken))) (omega arith) (c .before .before .put-refused .ensures .1) ∙ l .inv .1
-
-returns-2 : tie.Need-returns-2 Inv-loop μ-loop
-returns-2 c =
-    let l = c .before .before .before .before .before .before .before .before .before .loop in
-    let d = c .before .before .before .before .before .before .decode in
-    let n = c .before .before .put-refused .ensures in
-    record { same = line-last (l .at) (l .out) (ended (refusedText (l .place) (d .result .refusal) (d .result .taken))) (omega arith) n (refused _ (l .place) (omega arith) (d .ensures) (c .before .before .before .before .if2 .taken)) (l .inv .5); inside = omega (arith, n .0); onward = λ h e. omega arith }
-
 put-line-requires : tie.Need-put-line-requires Inv-loop μ-loop
-put-line-requires c κs = lent-room (c .before .before .before .before .before .before .before .loop .at) (c .before .before .before .before .before .before .before .loop .out) (omega arith)
+put-line-requires c κs =
+    let l = c .before .before .before .loop in
+    rw (rest (l .at) (l .out)) (omega (arith, length-drop (l .at) (l .out)))
 
-add-t14 : tie.Need-add-t14 Inv-loop μ-loop
-add-t14 c = omega (arith, c .before .before .put-end .ensures .0)
+-- the turn that put a line: its image and place, what stands there, and that the line had room
+abbrev Put : Type 0
+Put = tie.After-put-line Inv-loop μ-loop
 
-add-t19 : tie.Need-add-t19 Inv-loop μ-loop
-add-t19 c = omega (arith, c .before .before .put-refused .ensures .0)
+abbrev turn : Put → tie.At-loop Inv-loop μ-loop
+turn p = p .before .before .before .before
+
+abbrev image : Put → List ℕ
+image p = turn p .before .before .before .args .image .now
+
+abbrev here : Put → Step
+here p = p .before .before .step-at .result
+
+abbrev line : Put → List ℕ
+line p = lineAt (turn p .loop .place) (here p)
+
+room : (p : Put) → length (line p) ≤ 113
+room p = line-room (turn p .loop .place) (here p)
+
+lies : (p : Put) {s : Step} → here p ≡ s → Told (image p) (turn p .loop .place) s
+lies p e = told by-rows (image p) (turn p .loop .place) (sym e ∙ p .before .before .step-at .ensures)
 
 add-at : tie.Need-add-at Inv-loop μ-loop
-add-at c = omega (arith, c .before .before .put-line .ensures .0, line-room (c .before .before .before .before .before .before .before .before .before .before .loop .place) (c .before .before .before .before .before .before .before .decode .result .inst))
+add-at c = let p = c .before .before in omega (arith, p .put-line .ensures .0, room p)
 
 add-place : tie.Need-add-place Inv-loop μ-loop
-add-place c = let i = inside (c .before .before .before .before .before .before .before .before .before .before .before .before .before .before .args .image .now) (c .before .before .before .before .before .before .before .before .before .before .before .loop .place) 0 [] (c .before .before .before .before .before .before .before .before .decode .ensures) (c .before .before .before .before .before .before .if2 .left) in omega arith
+add-place c = let p = c .before .before .before .before .before in omega (arith, lies p (c .before .here .given .1))
 
 loop-less : tie.Need-loop-less Inv-loop μ-loop
-loop-less c = let i = inside (c .before .before .before .before .before .before .before .before .before .before .before .before .before .before .args .image .now) (c .before .before .before .before .before .before .before .before .before .before .before .loop .place) 0 [] (c .before .before .before .before .before .before .before .before .decode .ensures) (c .before .before .before .before .before .before .if2 .left) in omega arith
+loop-less c = let p = c .before .before .before .before .before in omega (arith, lies p (c .before .here .given .1))
 
 loop-again : tie.Need-loop-again Inv-loop μ-loop
 loop-again c =
-    let l = c .before .before .before .before .before .before .before .before .before .before .before .loop in
-    let d = c .before .before .before .before .before .before .before .before .decode in
-    let image = c .before .before .before .before .before .before .before .before .before .before .before .before .before .before .args .image .now in
-    let i = inside (c .before .before .before .before .before .before .before .before .before .before .before .before .before .before .args .image .now) (c .before .before .before .before .before .before .before .before .before .before .before .loop .place) 0 [] (c .before .before .before .before .before .before .before .before .decode .ensures) (c .before .before .before .before .before .before .if2 .left) in
-    let n = c .before .before .before .put-line .ensures in
-    let xs = ended (lineOf (l .place) (d .result .inst)) in
-    let short = line-room (l .place) (d .result .inst) in
-    let k = lent-length (l .at) (l .out) xs (omega arith) (n .1) in (
-      omega (arith, n .0),
+    let p = c .before .before .before .before .before in
+    let l = turn p .loop in
+    let n = p .put-line .ensures in
+    let k = lent-length (l .at) (l .out) (line p) (omega (arith, room p)) (n .1) in
+    let t = lies p (c .before .here .given .1) in (
+      omega (arith, n .0, room p),
       k ∙ l .inv .1,
       omega arith,
       omega arith,
-      omega (arith, n .0),
-      line-more (l .at) (l .out) xs (omega arith) n (listed image (l .place + d .result .taken)) (accepted image (l .place) (omega arith) (d .ensures) (c .before .before .before .before .before .before .if2 .left)) (l .inv .5),
+      omega (arith, n .0, room p),
+      line-more (l .at) (l .out) (line p) (omega (arith, room p)) n _ (from-here (image p) (l .place) (p .before .before .step-at .ensures) (ap (onward stopping (l .place)) (c .before .here .given .1))) (l .inv .5),
     )
 
-same-length-3 : tie.Need-same-length-3 Inv-loop μ-loop
-same-length-3 c = c .before .loop .inv .1
+-- a walk stops at the steps that are not accepted
+ends : (p : ℕ) (s : Step) → OneOf (0 ∷ 2 ∷ []) (tagOf declared.the-type s) → onward stopping p s ≡ stop
+ends p End h = refl
+ends p (Accepted r t) (inl e) = absurd (omega arith)
+ends p (Accepted r t) (inr e) = absurd (omega arith)
+ends p (Refused e t) h = refl
 
-returns-3 : tie.Need-returns-3 Inv-loop μ-loop
-returns-3 c = record { same = c .before .loop .inv .5; inside = omega arith; onward = λ h e. omega arith }
+same-length : tie.Need-same-length Inv-loop μ-loop
+same-length c =
+    let p = c .before .before .before in
+    let l = turn p .loop in
+    lent-length (l .at) (l .out) (line p) (omega (arith, room p)) (p .put-line .ensures .1) ∙ l .inv .1
+
+returns : tie.Need-returns Inv-loop μ-loop
+returns c =
+    let p = c .before .before .before in
+    let l = turn p .loop in
+    let n = p .put-line .ensures in
+    record {
+      same = line-last (l .at) (l .out) (line p) (omega (arith, room p)) n (from-here (image p) (l .place) (p .before .before .step-at .ensures) (ends (l .place) (here p) (c .match .keys2))) (l .inv .5);
+      inside = omega (arith, n .0, room p);
+      onward = λ h e. omega arith;
+    }
+
+same-length-2 : tie.Need-same-length-2 Inv-loop μ-loop
+same-length-2 c = c .before .loop .inv .1
+
+returns-2 : tie.Need-returns-2 Inv-loop μ-loop
+returns-2 c = record { same = c .before .loop .inv .5; inside = omega arith; onward = λ h e. omega arith }
 
 pub fill-lines-spec : {M : Type 1} → statement M
 fill-lines-spec =
     tie.close
-    (tie.spec Inv-loop μ-loop loop-holds (λ c. search needs) (λ c. search needs) (λ c. search needs) (λ c. search needs) put-end-requires add-t14 same-length returns (λ c κs. search needs) (λ c. search needs) (λ c. search needs) (λ c. search needs) put-refused-requires add-t19 same-length-2 returns-2 (λ c. search needs) (λ c. search needs) (λ c. search needs) put-line-requires add-at add-place loop-less loop-again same-length-3 returns-3)
+    (tie.spec Inv-loop μ-loop loop-holds (λ c. search needs) (λ c κs. search needs) (λ c. search needs) (λ c. search needs) (λ c. search needs)
+    put-line-requires add-at (λ c. search needs) add-place loop-less loop-again same-length returns same-length-2 returns-2)

@@ -1,27 +1,34 @@
 -- `listing::page::put_line` meets its contract.
 -- Assumes nothing.
+use Prim.Native.Nat.{ℕ, _<_}
+use mathlib.Core.List.{List}
 use native.Mathlib.Omega.{arith}
+use lib.ListN.{length}
 use borrow.Author.Needs.{needs}
-use Rattle.line.specs.Line.{lineOf}
-use Rattle.line.proofs.Lined.{line-short}
-use Rattle.listing.proofs.Closed.{room, closed, closed-length}
+use Rattle.listing.specs.Listing.{stepText}
+use Rattle.listing.proofs.Lines.{line-longer, line-room, long, same-length, closed}
 use Rattle.listing.proofs.page.put_line.Statement.{statement}
 use Rattle.listing.proofs.page.put_line.Tie as tie
 
-close-requires : tie.Need-close-requires
-close-requires c κs =
-    let start = c .before .before .before .before .before .before in
-    room (lineOf (start .args .place) (start .args .r)) (start .args .out .now) (omega (arith, start .pre, line-short (start .args .place) (start .args .r))) (c .before .before .before .line .ensures)
+abbrev start : tie.After-slice-known2 → tie.Start
+start c = c .before .before .before .before .before
 
-same-length : tie.Need-same-length
-same-length c =
-    let start = c .before .before .before .before .before .before .before .before .before in
-    closed-length (lineOf (start .args .place) (start .args .r)) (start .args .out .now) (omega (arith, start .pre, line-short (start .args .place) (start .args .r))) (c .before .before .before .before .before .before .line .ensures) (c .before .before .close .ensures)
+abbrev text : tie.After-slice-known2 → List ℕ
+text c = stepText (start c .args .place) (start c .args .here)
+
+room : (c : tie.After-slice-known2) → length (text c) < length (start c .args .out .now)
+room c = omega (arith, start c .pre, line-longer (start c .args .place) (start c .args .here), line-room (start c .args .place) (start c .args .here))
+
+slice-write-out : tie.Need-slice-write-out
+slice-write-out c = let e = c .before .before .write-step .ensures in omega (arith, room c, long _ _ (room c) e, same-length _ _ (room c) e)
+
+add-result : tie.Need-add-result
+add-result c = omega (arith, room c, long _ _ (room c) (c .before .before .write-step .ensures))
 
 returns : tie.Need-returns
 returns c =
-    let start = c .before .before .before .before .before .before .before .before .before in
-    closed (lineOf (start .args .place) (start .args .r)) (start .args .out .now) (omega (arith, start .pre, line-short (start .args .place) (start .args .r))) (c .before .before .before .before .before .before .line .ensures) (c .before .before .close .ensures)
+    let e = c .before .before .write-step .ensures in
+    (omega (arith, long _ _ (room c) e, line-longer (start c .args .place) (start c .args .here)), closed _ _ (room c) e)
 
 pub put-line-spec : {M : Type 1} → statement M
-put-line-spec = tie.close (tie.spec (λ c κs. search needs) close-requires same-length returns)
+put-line-spec = tie.close (tie.spec (λ c κs. search needs) slice-write-out add-result (λ c. search needs) returns)

@@ -1,0 +1,91 @@
+-- What stands at a place, in numbers, and the law of a turn: a walk is the step here and the walk from where it leads.
+-- Assumes nothing.
+use Prim.Native.Nat.{ℕ, zero, suc, _+_, _-_, _≤_, _<_}
+use mathlib.Core.Path.{_≡_, refl, sym, ap, subst, _∙_}
+use mathlib.Core.Bool.{Bool, true, false}
+use mathlib.Core.List.{List}
+use native.Mathlib.Omega.{arith}
+use lib.Dec.{leb, eqb}
+use lib.ListN.{length, drop, length-drop}
+use borrow.Author.Tests.{leb-true, leb-false, eqb-true, le-leb}
+use Rattle.record.specs.declared.Answer.{Answer}
+use Rattle.rows.specs.Rows.{document01}
+use Rattle.rows.specs.Run.{decodeRows}
+use Rattle.rows.proofs.Taken.{counted}
+use Rattle.rows.proofs.Length.{at-least}
+use Rattle.sweep.specs.declared.step.Step.{Step}
+use Rattle.sweep.specs.declared.step.Step.the-variants.{End, Accepted, Refused}
+use Rattle.sweep.specs.Walk.{stepAt, Walk, last, more, Onward, stop, on, stopping, onward, visit, go, walk}
+
+-- what a walk asks of a reading: where it accepts, it takes a byte at least and no more than are left
+pub record Advances (reading : List ℕ → Answer) : Type 0 where
+  pub some : (bs : List ℕ) → reading bs .refusal ≡ 0 → 1 ≤ reading bs .taken
+  pub within : (bs : List ℕ) → reading bs .taken ≤ length bs
+
+-- and of a rule: it goes on behind the refused place
+abbrev pub Ahead : (ℕ → Onward) → Type 0
+Ahead rule = (p q : ℕ) → rule p ≡ on q → p < q
+
+-- a step in numbers
+abbrev pub Told : List ℕ → ℕ → Step → Type 0
+Told bs p End = length bs ≤ p
+Told bs p (Accepted r t) = (p < length bs) × (1 ≤ t) × (t ≤ length bs - p)
+Told bs p (Refused e t) = (p < length bs) × (t ≤ length bs - p)
+
+module _ {reading : List ℕ → Answer} (advances : Advances reading) (bs : List ℕ) where
+  pub told : (p : ℕ) {s : Step} → s ≡ stepAt reading bs p → Told bs p s
+  unfolding stepAt
+  told p e = subst (Told bs p) (sym e) (by (leb (length bs) p) (eqb (x .refusal) 0) refl refl)
+    where
+      x : Answer
+      x = reading (drop p bs)
+
+      by : (a b : Bool) → leb (length bs) p ≡ a → eqb (x .refusal) 0 ≡ b → Told bs p (stepAt reading bs p)
+      by true b e f = rw e (leb-true _ _ e)
+      by false true e f = rw (e, f) (omega (arith, leb-false), advances .some (drop p bs) (eqb-true _ 0 f), rw length-drop at (advances .within (drop p bs)))
+      by false false e f = rw (e, f) (omega (arith, leb-false), rw length-drop at (advances .within (drop p bs)))
+
+  pub end : (p : ℕ) → length bs ≤ p → stepAt reading bs p ≡ End
+  unfolding stepAt
+  end p h = rw (le-leb _ _ h)
+
+  module _ {rule : ℕ → Onward} (ahead : Ahead rule) where
+    further : (p q : ℕ) (s : Step) → Told bs p s → onward rule p s ≡ on q → (p < q) × (p < length bs)
+    further p q End h e = let z : _≡_ {A = ℕ} 0 1 = cc in omega arith
+    further p q (Accepted r t) h e = let z : p + t ≡ q = cc in (omega arith, h .0)
+    further p q (Refused r t) h e = (ahead p q e, h .0)
+
+    same : (p : ℕ) (s : Step) {f g : ℕ → Walk} (o : Onward) → ((q : ℕ) → o ≡ on q → f q ≡ g q) → visit p s o f ≡ visit p s o g
+    same p s stop h = refl
+    same p s (on q) h = ap (more p s) (h q refl)
+
+    at-end : (k p : ℕ) → length bs ≤ p → go reading rule bs k p ≡ last p End
+    unfolding go
+    at-end zero p h = refl
+    at-end (suc k) p h = rw (end p h)
+
+    -- more turns than there are bytes left change nothing
+    enough : (k m p : ℕ) → length bs - p ≤ k → length bs - p ≤ m → go reading rule bs k p ≡ go reading rule bs m p
+    unfolding go
+    enough zero m p h g = sym (at-end m p (omega arith))
+    enough (suc k) zero p h g = at-end (suc k) p (omega arith)
+    enough (suc k) (suc m) p h g =
+        same p (stepAt reading bs p) (onward rule p (stepAt reading bs p)) (λ q e. let l = further p q (stepAt reading bs p) (told p refl) e in enough k m q (omega arith) (omega arith))
+
+    -- the walk from a place is the step there, and the walk from where it leads
+    pub turned : (p : ℕ) {s : Step} → s ≡ stepAt reading bs p → walk reading rule bs p ≡ visit p s (onward rule p s) (walk reading rule bs)
+    unfolding go walk
+    turned p {s} e = by (length bs - p) refl
+      where
+        by : (k : ℕ) → length bs - p ≡ k → go reading rule bs k p ≡ visit p s (onward rule p s) (walk reading rule bs)
+        by zero f = rw (e ∙ end p (omega arith))
+        by (suc k) f =
+            ap (λ z. visit p z (onward rule p z) (go reading rule bs k)) (sym e)
+            ∙ same p s (onward rule p s) (λ q g. let l = further p q s (told p e) g in enough k (length bs - q) q (omega arith) (omega arith))
+
+-- document 01's reading and its rule
+pub by-rows : Advances decodeRows
+by-rows = record { some = λ bs z. let l = at-least document01 bs z in omega arith; within = λ bs. counted document01 bs .within }
+
+pub stops : Ahead stopping
+stops p q e = let z : _≡_ {A = ℕ} 0 1 = cc in omega arith
