@@ -3,7 +3,7 @@
 use Prim.Native.Nat.{ℕ, _<_}
 use mathlib.Core.Path.{_≡_, refl, sym, ap, ap₂, subst, _∙_}
 use mathlib.Core.Bool.{Bool, true, false}
-use mathlib.Core.List.{_∷_}
+use mathlib.Core.List.{[], _∷_}
 use lib.Dec.{T, eqb, ltb}
 use lib.ListN.{getD}
 use borrow.Author.Tests.{eqb-true, eq-eqb, ltb-true}
@@ -41,6 +41,9 @@ known-code a e = by (eqb a 0) refl
     by : (z : Bool) → eqb a 0 ≡ z → z ≡ false
     by false q = refl
     by true q = sym e ∙ ap known (eqb-true a 0 q)
+
+pub not-planned : (p : Plan) → planned p ≡ 0 ∷ 0 ∷ [] → foundBy p ≡ none
+not-planned p s = let first : eqb (p .first) 0 ≡ true = ap (λ xs. eqb (getD xs 0 0) 0) s in rw first refl
 
 -- a code is chosen only for names that go together
 abbrev isCode : Choice → Bool
@@ -129,10 +132,6 @@ module _ (r : Record) (third : sameName (r .op2) Nothing ≡ true) (a b : ℕ) (
       ∙ said-if-small a b e second-below (the-row .lives) k (the-row .condition) part
       ∙ (λ j. both (ltb (k .number0) (limitOf (the-row .op0 j))) (ltb (k .number1) (limitOf (the-row .op1 j))))
 
-  pub not-said : slots.fitting (faceBy q) k ≡ false → none ≡ encoded r
-  unfolding taken
-  not-said u = ap (λ z. pick z (bytes (bytesBy document01 a b k)) none) (sym (able-is ∙ u)) ∙ ap (λ x. taken document01 x k) (sym chosen)
-
   -- what stands behind the code does not depend on its opcode or size
   same-slots : slots.slots (document01 .rowAt a b .face) (conditions a b) k ≡ slots.slots (faceBy q) (conditions a b) k
   unfolding slots.slots
@@ -144,8 +143,13 @@ module _ (r : Record) (third : sameName (r .op2) Nothing ≡ true) (a b : ℕ) (
   unfolding bytesBy
   in-slots = ap (λ xs. a ∷ b ∷ xs) (ordered a b e second-below (the-row .lives) k ∙ same-slots)
 
-  pub said-by : slots.fitting (faceBy q) k ≡ true → (p : Plan) → planned p ≡ a ∷ b ∷ slots.slots (faceBy q) (conditions a b) k → foundBy p ≡ encoded r
+  -- so a plan of these bytes where the numbers fit, and of 0 0 where they do not, is what is found
+  pub said-by : (p : Plan) → planned p ≡ pick (slots.fitting (faceBy q) k) (a ∷ b ∷ slots.slots (faceBy q) (conditions a b) k) (0 ∷ 0 ∷ []) → foundBy p ≡ encoded r
   unfolding taken
-  said-by u p s =
-      let first : eqb (p .first) 0 ≡ false = ap (λ xs. eqb (getD xs 0 0) 0) s ∙ known-code a e in
-      rw first (ap bytes (s ∙ sym in-slots) ∙ ap (λ z. pick z (bytes (bytesBy document01 a b k)) none) (sym (able-is ∙ u))) ∙ ap (λ x. taken document01 x k) (sym chosen)
+  said-by p = by (slots.fitting (faceBy q) k) able-is
+    where
+      by : (fit : Bool) → able document01 a b k ≡ fit → planned p ≡ pick fit (a ∷ b ∷ slots.slots (faceBy q) (conditions a b) k) (0 ∷ 0 ∷ []) → foundBy p ≡ encoded r
+      by true u s =
+          let first : eqb (p .first) 0 ≡ false = ap (λ xs. eqb (getD xs 0 0) 0) s ∙ known-code a e in
+          rw first (ap bytes (s ∙ sym in-slots) ∙ ap (λ z. pick z (bytes (bytesBy document01 a b k)) none) (sym u)) ∙ ap (λ x. taken document01 x k) (sym chosen)
+      by false u s = not-planned p s ∙ ap (λ z. pick z (bytes (bytesBy document01 a b k)) none) (sym u) ∙ ap (λ x. taken document01 x k) (sym chosen)

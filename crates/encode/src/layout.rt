@@ -1,9 +1,11 @@
 // The numbers behind a code.
 ghost use mathlib.Core.Path.{_≡_};
-ghost use mathlib.Core.List.{_∷_, _++_};
+ghost use mathlib.Core.List.{[], _∷_, _++_};
 ghost use Prim.Native.Nat.{_≤_};
+ghost use lib.Dec.{eqb};
 ghost use Rattle.laws.specs.Choice.{pick};
 ghost use Rattle.encode_rules.specs.steps.Digits.{digits};
+ghost use Rattle.encode_choice.specs.steps.Coarse.{wholeRow};
 ghost use Rattle.encode.specs.steps.Faced.{faceBy};
 ghost use Rattle.encode.specs.steps.Plan.{planned};
 ghost use Rattle.encode.specs.steps.Slots as slots;
@@ -15,17 +17,6 @@ use encode_choice::Asked;
 use encode_choice::names;
 use record::Key;
 use record::Operand;
-
-// Each number is small enough for its bytes.
-pub(crate) fn fits(q: Asked, k: Key) -> bool
-    ensures { λ r. ⌜ r ≡ slots.fitting (faceBy q) k ⌝ }
-{
-    let op0 = q.op0;
-    let op1 = q.op1;
-    let slot0 = counts::slot_of(op0);
-    let slot1 = counts::slot_of(op1);
-    joined::both(k.number0 < slot0.limit, k.number1 < slot1.limit)
-}
 
 fn turns(o: Operand) -> bool
     ensures { λ r. ⌜ r ≡ slots.turns o ⌝ }
@@ -44,25 +35,24 @@ fn turns(o: Operand) -> bool
     }
 }
 
-fn count0(q: Asked) -> u8
-    ensures { λ r. ⌜ (r ≡ slots.count0 (faceBy q)) × (r ≤ 3) ⌝ }
+fn count0(q: Asked, n: u8) -> u8
+    requires { ⌜ n ≤ 3 ⌝ }
+    ensures { λ r. ⌜ (r ≡ pick (wholeRow (faceBy q)) 0 n) × (r ≤ 3) ⌝ }
 {
     let width = q.width;
     let op0 = q.op0;
     if names::is_whole(width, op0) {
         return 0;
     }
-    let slot = counts::slot_of(op0);
-    slot.count
+    n
 }
 
-fn count1(q: Asked, c: u8) -> u8
-    ensures { λ r. ⌜ (r ≡ slots.count1 (faceBy q) c) × (r ≤ 3) ⌝ }
+fn count1(c: u8, n: u8) -> u8
+    requires { ⌜ n ≤ 3 ⌝ }
+    ensures { λ r. ⌜ (r ≡ pick (eqb c 0) n 1) × (r ≤ 3) ⌝ }
 {
-    let op1 = q.op1;
     if c == 0 {
-        let slot = counts::slot_of(op1);
-        return slot.count;
+        return n;
     }
     1
 }
@@ -102,18 +92,38 @@ fn in_order(a: u8, b: u8, turned: bool, n: u8, v: u32, m: u8, w: u32) -> Plan
     }
 }
 
-// A code and what stands behind it; c is 1 if that is a condition.
+// No plan: first byte 0.
+pub(crate) fn no_plan() -> Plan
+    ensures { λ r. ⌜ (planned r ≡ 0 ∷ 0 ∷ []) × (r .count ≤ 3) × (r .«rest_count» ≤ 3) ⌝ }
+{
+    Plan {
+        first: 0,
+        second: 0,
+        count: 0,
+        number: 0,
+        rest_count: 0,
+        rest: 0,
+    }
+}
+
+// A code and what stands behind it, if each number is small enough for its bytes; c is 1 if that is a condition.
 pub(crate) fn plan_of(a: u8, b: u8, q: Asked, c: u8, k: Key) -> Plan
-    ensures { λ r. ⌜ (planned r ≡ a ∷ b ∷ slots.slots (faceBy q) c k) × (r .count ≤ 3) × (r .«rest_count» ≤ 3) ⌝ }
+    ensures { λ r. ⌜ (planned r ≡ pick (slots.fitting (faceBy q) k) (a ∷ b ∷ slots.slots (faceBy q) c k) (0 ∷ 0 ∷ [])) × (r .count ≤ 3) × (r .«rest_count» ≤ 3) ⌝ }
 {
     let op0 = q.op0;
-    in_order(
-        a,
-        b,
-        turns(op0),
-        count0(q),
-        k.number0,
-        count1(q, c),
-        number1(c, k),
-    )
+    let op1 = q.op1;
+    let slot0 = counts::slot_of(op0);
+    let slot1 = counts::slot_of(op1);
+    if joined::both(k.number0 < slot0.limit, k.number1 < slot1.limit) {
+        return in_order(
+            a,
+            b,
+            turns(op0),
+            count0(q, slot0.count),
+            k.number0,
+            count1(c, slot1.count),
+            number1(c, k),
+        );
+    }
+    no_plan()
 }

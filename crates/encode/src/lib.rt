@@ -1,4 +1,4 @@
-// The encoder: the shortest bytes that say what a record says.
+// The encoder: the shortest bytes that encode a record.
 mod key; // what counts of a record
 mod counts; // the bytes that a name asks for
 mod condition; // the byte of a condition
@@ -12,7 +12,6 @@ ghost use Prim.Native.Nat.{_≤_};
 ghost use Rattle.record.specs.declared.Operand.the-variants.{Nothing};
 ghost use Rattle.record.specs.Same.{sameName};
 ghost use Rattle.encode_choice.specs.steps.Choose.{encoded};
-ghost use Rattle.encode_rules.specs.Says.{none};
 ghost use Rattle.encode_rules.specs.Written.{outcome, Encodes};
 ghost use Rattle.encode.specs.steps.Faced as faced;
 ghost use Rattle.encode.specs.steps.Plan.{foundBy};
@@ -50,21 +49,7 @@ fn conditions(a: u8, b: u8) -> u8
     0
 }
 
-// No plan: first byte 0.
-fn no_plan() -> Plan
-    ensures { λ r. ⌜ (foundBy r ≡ none) × (r .count ≤ 3) × (r .«rest_count» ≤ 3) ⌝ }
-{
-    Plan {
-        first: 0,
-        second: 0,
-        count: 0,
-        number: 0,
-        rest_count: 0,
-        rest: 0,
-    }
-}
-
-// How the chosen code says a record: its row has the names that were asked for.
+// How the chosen code encodes a record: its row has the names that were asked for.
 fn find(r: Record) -> Plan
     requires { ⌜ sameName (r .op2) Nothing ≡ true ⌝ }
     ensures { λ p. ⌜ (foundBy p ≡ encoded r) × (p .count ≤ 3) × (p .«rest_count» ≤ 3) ⌝ }
@@ -74,13 +59,10 @@ fn find(r: Record) -> Plan
     let q = asks::asked(k);
     let c = encode_choice::choose(opcode, q);
     if c.first == 0 {
-        return no_plan();
+        return layout::no_plan();
     }
     let b = c.second as u8;
-    if layout::fits(q, k) {
-        return layout::plan_of(c.first, b, q, conditions(c.first, b), k);
-    }
-    no_plan()
+    layout::plan_of(c.first, b, q, conditions(c.first, b), k)
 }
 
 // The shortest byte string, then the first in byte order, of all that decode by unmarked rows to the same instruction, from a place

@@ -1,11 +1,10 @@
 -- `encode::find` meets its contract.
 -- Assumes nothing.
-use Prim.Native.Nat.{ℕ}
 use mathlib.Core.Path.{_≡_, sym, ap, ap₂, _∙_}
 use mathlib.Core.Logic.{_≢_}
-use mathlib.Core.Bool.{Bool}
-use mathlib.Core.List.{_∷_}
+use mathlib.Core.List.{[], _∷_}
 use borrow.Author.Needs.{needs}
+use Rattle.laws.specs.Choice.{pick}
 use Rattle.record.specs.declared.Record.{Record}
 use Rattle.record.specs.Same.{key}
 use Rattle.encode_choice.specs.declared.Asked.{Asked}
@@ -15,7 +14,7 @@ use Rattle.encode_choice.specs.steps.Coded.{coded}
 use Rattle.encode.specs.steps.Faced as faced
 use Rattle.encode.specs.steps.Slots as slots
 use Rattle.encode.proofs.Taken.{uncoded, not-chosen}
-use Rattle.encode.proofs.Found.{second-below, not-said, said-by}
+use Rattle.encode.proofs.Found.{second-below, not-planned, said-by}
 use Rattle.encode.proofs.find.Statement.{statement}
 use Rattle.encode.proofs.find.Tie as tie
 
@@ -45,46 +44,29 @@ returns c =
     let t = c .before .before .before in
     let x = choice.chooseNamed (the-record t .opcode) (the-asked t) in
     let r = c .no-plan .ensures in
-    (r .0 ∙ not-chosen x (key (the-record t)) (ap (λ c. c .first) (sym (chosen-is t)) ∙ c .before .if1 .taken), r .1, r .2)
+    (not-planned (c .no-plan .result) (r .0) ∙ not-chosen x (key (the-record t)) (ap (λ c. c .first) (sym (chosen-is t)) ∙ c .before .if1 .taken), r .1, r .2)
 
 cast-b : tie.Need-cast-b
 cast-b c =
     let t = c .before .before .before in
     record { fits = second-below (the-record t) (t .before .before .before .pre) (t .choose .result .first) (t .choose .result .second) (chosen t (c .before .if1 .left)) }
 
--- the code's numbers, and what was made of them
-abbrev at : tie.After-fits2 → tie.After-choose
-at t = t .before .before .before .before
-
-abbrev a : tie.After-fits2 → ℕ
-a t = at t .choose .result .first
-
-abbrev b : tie.After-fits2 → ℕ
-b t = at t .choose .result .second
-
-the-code : (t : tie.After-fits2) → choice.chooseNamed (the-record (at t) .opcode) (the-asked (at t)) ≡ code (a t) (b t)
-the-code t = chosen (at t) (t .before .before .if1 .left)
-
-told : (t : tie.After-fits2) {x : Bool} → t .fits2 .result ≡ x → slots.fitting (faced.faceBy (the-asked (at t))) (key (the-record (at t))) ≡ x
-told t e = sym (t .fits2 .ensures ∙ (λ j. slots.fitting (faced.faceBy (asked-is (at t) j)) (key-is (at t) j))) ∙ e
-
 returns-2 : tie.Need-returns-2
 returns-2 c =
-    let t = c .before .before .before in
+    let left = c .before .before .before in
+    let t = left .before .before in
+    let a = t .choose .result .first in
+    let b = t .choose .result .second in
     let r = c .plan-of .ensures in (
-      said-by (the-record (at t)) (at t .before .before .before .pre) (a t) (b t) (the-code t) (told t (c .before .before .if2 .taken)) (c .plan-of .result)
-          (r .0 ∙ (λ j. a t ∷ b t ∷ slots.slots (faced.faceBy (asked-is (at t) j)) (c .before .conditions .ensures .0 j) (key-is (at t) j))),
+      said-by (the-record t) (t .before .before .before .pre) a b (chosen t (left .if1 .left)) (c .plan-of .result)
+          (r .0
+          ∙ (λ j. pick (slots.fitting (faced.faceBy (asked-is t j)) (key-is t j))
+          (a ∷ b ∷ slots.slots (faced.faceBy (asked-is t j)) (c .before .conditions .ensures .0 j) (key-is t j)) (0 ∷ 0 ∷ []))),
       r .1,
       r .2,
     )
 
-returns-3 : tie.Need-returns-3
-returns-3 c =
-    let t = c .before .before in
-    let r = c .no-plan2 .ensures in
-    (r .0 ∙ not-said (the-record (at t)) (at t .before .before .before .pre) (a t) (b t) (the-code t) (told t (c .before .if2 .left)), r .1, r .2)
-
 pub find-spec : {M : Type 1} → statement M
 find-spec =
     tie.close
-    (tie.spec (λ c κs. search needs) (λ c κs. search needs) (λ c κs. search needs) (λ c κs. search needs) returns cast-b (λ c κs. search needs) (λ c κs. search needs) (λ c κs. search needs) returns-2 (λ c κs. search needs) returns-3)
+    (tie.spec (λ c κs. search needs) (λ c κs. search needs) (λ c κs. search needs) (λ c κs. search needs) returns cast-b (λ c κs. search needs) (λ c κs. search needs) returns-2)

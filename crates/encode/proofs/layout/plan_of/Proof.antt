@@ -1,33 +1,73 @@
 -- `encode::layout::plan_of` meets its contract.
 -- Assumes nothing.
-use mathlib.Core.Path.{_∙_}
-use mathlib.Core.List.{_∷_, _++_}
+use mathlib.Core.Path.{_≡_, sym, ap, ap₂, _∙_}
+use mathlib.Core.List.{[], _∷_, _++_}
+use lib.Dec.{eqb, ltb}
 use borrow.Author.Needs.{needs}
-use Rattle.laws.specs.Choice.{pick}
+use Rattle.laws.specs.Choice.{pick, both}
 use Rattle.encode_rules.specs.steps.Digits.{digits}
+use Rattle.encode_choice.specs.steps.Coarse.{wholeRow}
+use Rattle.encode.specs.steps.Faced.{faceBy}
 use Rattle.encode.specs.steps.Slots as slots
 use Rattle.encode.proofs.layout.plan_of.Statement.{statement}
 use Rattle.encode.proofs.layout.plan_of.Tie as tie
 
-returns : tie.Need-returns
-unfolding slots.slots
-returns c =
-    let fourth = c .before in
-    let third = fourth .before in
-    let second = third .before in
-    let first = second .before in
-    let args = first .before .args in
-    let r = c .in-order .ensures in (
-      r .0
-          ∙ (λ j. args .a ∷ args .b ∷ pick (first .turns .ensures j)
-          (digits (third .count1 .ensures .0 j) (fourth .number1 .ensures j) ++ digits (second .count0 .ensures .0 j) (args .k .number0))
-          (digits (second .count0 .ensures .0 j) (args .k .number0) ++ digits (third .count1 .ensures .0 j) (fourth .number1 .ensures j))),
-      r .1,
-      r .2,
-    )
+-- after the tests: the slots of operands 1 and 0, and what was asked
+abbrev slot1 : tie.After-both → tie.After-slot-of2
+slot1 t = t .before .before .before .before .before
+
+abbrev slot0 : tie.After-both → tie.After-slot-of
+slot0 t = slot1 t .before
+
+abbrev begun : tie.After-both → tie.Start
+begun t = slot0 t .before
+
+fit : (t : tie.After-both) → slots.fitting (faceBy (begun t .args .q)) (begun t .args .k) ≡ t .both .result
+unfolding slots.fitting
+fit t =
+    let k = begun t .args .k in
+    sym (t .both .ensures ∙ ap₂ both (ap (ltb (k .number0)) (slot0 t .slot-of .ensures .1)) (ap (ltb (k .number1)) (slot1 t .slot-of2 .ensures .1)))
+
+count0-requires : tie.Need-count0-requires
+count0-requires c κs = slot0 (c .before .before) .slot-of .ensures .0 .1
+
+count1-requires : tie.Need-count1-requires
+count1-requires c κs = slot1 (c .before .before .before) .slot-of2 .ensures .0 .1
 
 in-order-requires : tie.Need-in-order-requires
 in-order-requires c κs = (c .before .before .count0 .ensures .1, c .before .count1 .ensures .1)
 
+returns : tie.Need-returns
+unfolding slots.slots
+returns c =
+    let numbered = c .before in
+    let counted1 = numbered .before in
+    let counted0 = counted1 .before in
+    let turned = counted0 .before in
+    let t = turned .before .before in
+    let args = begun t .args in
+    let q = args .q in
+    let k = args .k in
+    let n = counted0 .count0 .ensures .0 ∙ ap (pick (wholeRow (faceBy q)) 0) (slot0 t .slot-of .ensures .0 .0) in
+    let m = counted1 .count1 .ensures .0 ∙ ap (λ n. pick (eqb (args .c) 0) n 1) (slot1 t .slot-of2 .ensures .0 .0) in
+    let w = numbered .number1 .ensures in
+    let r = c .in-order .ensures in (
+      r .0
+          ∙ (λ j. args .a ∷ args .b ∷ pick (turned .turns .ensures j) (digits (m j) (w j) ++ digits (n j) (k .number0)) (digits (n j) (k .number0) ++ digits (m j) (w j)))
+          ∙ ap (λ b. pick b (args .a ∷ args .b ∷ slots.slots (faceBy q) (args .c) k) (0 ∷ 0 ∷ [])) (sym (fit t ∙ turned .before .if1 .taken)),
+      r .1,
+      r .2,
+    )
+
+returns-2 : tie.Need-returns-2
+returns-2 c =
+    let t = c .before .before in
+    let args = begun t .args in
+    let r = c .no-plan .ensures in
+    (r .0 ∙ ap (λ b. pick b (args .a ∷ args .b ∷ slots.slots (faceBy (args .q)) (args .c) (args .k)) (0 ∷ 0 ∷ [])) (sym (fit t ∙ c .before .if1 .left)), r .1, r .2)
+
 pub plan-of-spec : {M : Type 1} → statement M
-plan-of-spec = tie.close (tie.spec (λ c κs. search needs) (λ c κs. search needs) (λ c κs. search needs) (λ c κs. search needs) in-order-requires returns)
+plan-of-spec =
+    tie.close
+    (tie.spec (λ c κs. search needs) (λ c κs. search needs) (λ c κs. search needs) (λ c κs. search needs) count0-requires count1-requires (λ c κs. search needs)
+    in-order-requires returns (λ c κs. search needs) returns-2)
