@@ -26,7 +26,8 @@ use Rattle.rows.specs.Run.{twentyBits}
 use Rattle.encode_rules.specs.steps.Search.{means, condByte, disps, imms, conds, nth, live, aim, wideFor, dispFor, firstFor}
 use Rattle.encode_rules.specs.steps.Can.{exact, fits, named, can}
 use Rattle.encode_rules.specs.steps.Direct.{Choice, code, nothing, rank, there, able, Beats}
-use Rattle.encode_choice.specs.steps.Coarse.{classOf, rep, whole, wholeKey, wholeRow, roughly, coarse, sized, alone, regular, keyAt, span, onCond, opcodes, beatsb, ifb, good, liveTest, codeTest}
+use Rattle.encode_choice.specs.steps.Coarse.{classOf, rep, whole, wholeKey, wholeRow, roughly, coarse, sized, alone, regular}
+use Rattle.encode_choice.specs.steps.Coarse.{keyAt, span, onCond, opcodes, beatsb, ifb, good, liveTest, codeTest}
 use Rattle.encode_rules.proofs.Bools.{so, both-true, both-so}
 use Rattle.encode_rules.proofs.Condition.{so-means, cond-small}
 use Rattle.encode_rules.proofs.Runs.{own}
@@ -242,9 +243,11 @@ unfolding aim
 can-is w k g c =
     let e = whole-is w k c in
     let n0 : coarse k .number0 ≡ pick (wholeRow (w .face)) (w .number) (rep (classOf (k .number0))) =
-    ap (λ x. roughly x (k .number0)) (sym e) ∙ number-is (wholeRow (w .face)) (k .number0) (w .number) (λ h. alone0 (fieldOf (w .face .op0)) (fieldOf (w .face .op1)) (imms (w .reads)) _ _ (g .alone h) (g .read h) (c .exact0)) in
+    ap (λ x. roughly x (k .number0)) (sym e)
+    ∙ number-is (wholeRow (w .face)) (k .number0) (w .number) (λ h. alone0 (fieldOf (w .face .op0)) (fieldOf (w .face .op1)) (imms (w .reads)) _ _ (g .alone h) (g .read h) (c .exact0)) in
     let n1 : coarse k .number1 ≡ pick (wholeRow (w .face)) 0 (rep (classOf (k .number1))) =
-    ap (λ x. roughly x (k .number1)) (sym e) ∙ number-is (wholeRow (w .face)) (k .number1) 0 (λ h. alone1 (fieldOf (w .face .op0)) (fieldOf (w .face .op1)) (imms (w .reads)) (w .number) _ (g .alone h) (c .exact1)) in
+    ap (λ x. roughly x (k .number1)) (sym e)
+    ∙ number-is (wholeRow (w .face)) (k .number1) 0 (λ h. alone1 (fieldOf (w .face .op0)) (fieldOf (w .face .op1)) (imms (w .reads)) (w .number) _ (g .alone h) (c .exact1)) in
     record {
       condition = λ l. cond-in (w .reads) (aim (w .face) k) l (live-is w (c .lives) .1) (c .fitting);
       class0 = class-span (fieldOf (w .face .op0)) _ _ _ (c .exact0);
@@ -269,7 +272,7 @@ module _ (t : Table) (choose : Key → Choice)
   here : (a b : ℕ) → there t a b ≡ true → (t .known a ≡ true) × (b < 256)
   here a b e = let p = both-true (ltb a 256) _ e in let q = both-true (ltb b 256) _ (p .1) in (q .1, ltb-true _ _ (q .0))
 
-  -- a code's row is regular if it can say anything
+  -- a code's row is regular if it can encode anything
   regular-at : (a b : ℕ) (k : Key) → there t a b ≡ true → Parts (t .rowAt a b) k → Regular (t .rowAt a b)
   regular-at a b k e c = let h = here a b e in regular-is (t .rowAt a b) (regulars a b (h .0) (h .1)) (c .lives)
 
@@ -296,11 +299,13 @@ module _ (t : Table) (choose : Key → Choice)
       let c = parts w k (p .1) in
       let g = regular-at a b k (p .0) c in
       let f = can-is w k g c in
-      let l : opcodes (conds (w .reads)) (w .face .opcode) (λ o. upto (λ i. upto (λ j. good t choose w a b (keyAt w o i j)) (span (fieldOf (w .face .op1)))) (span (fieldOf (w .face .op0)))) ≡ true =
+      let span0 = span (fieldOf (w .face .op0)) in
+      let span1 = span (fieldOf (w .face .op1)) in
+      let l : opcodes (conds (w .reads)) (w .face .opcode) (λ o. upto (λ i. upto (λ j. good t choose w a b (keyAt w o i j)) span1) span0) ≡ true =
       subst (λ x. liveTest t choose x a b w ≡ true) (c .lives) (tested a b (h .0) (h .1)) in
       let o = opcodes-at (conds (w .reads)) (w .face .opcode) (k .opcode) _ l (c .opcode) (f .condition) in
-      let i = upto-at (λ i. upto (λ j. good t choose w a b (keyAt w (k .opcode) i j)) (span (fieldOf (w .face .op1)))) (span (fieldOf (w .face .op0))) (true-t o) (classOf (k .number0)) (f .class0) in
-      let j = upto-at (λ j. good t choose w a b (keyAt w (k .opcode) (classOf (k .number0)) j)) (span (fieldOf (w .face .op1))) i (classOf (k .number1)) (f .class1) in
+      let i = upto-at (λ i. upto (λ j. good t choose w a b (keyAt w (k .opcode) i j)) span1) span0 (true-t o) (classOf (k .number0)) (f .class0) in
+      let j = upto-at (λ j. good t choose w a b (keyAt w (k .opcode) (classOf (k .number0)) j)) span1 i (classOf (k .number1)) (f .class1) in
       let u : good t choose w a b (coarse k) ≡ true = subst (λ x. good t choose w a b x ≡ true) (sym (f .coarsened)) (so _ j) in
       let able-to : can w (coarse k) ≡ true = can-coarse w k g (whole-is w k c) ∙ p .1 in
       let v : beatsb t choose (choose (coarse k)) w a b (coarse k) ≡ true = subst (λ x. ifb t choose x w a b (coarse k) ≡ true) able-to u in

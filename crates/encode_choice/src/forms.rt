@@ -1,25 +1,27 @@
 // Which size and names go with an opcode: those that it has in an unmarked row.
 ghost use mathlib.Core.Path.{_≡_};
 ghost use lib.Dec.{ltb};
+ghost use Rattle.laws.specs.Choice.{both};
 ghost use Rattle.encode_choice.specs.steps.Forms.{formOf, numberLimit, goesWith};
 ghost use Rattle.encode_choice.specs.steps.NameSet.{allIn};
 use crate::Asked;
 use crate::name_sets;
+use crate::name_sets::Sets;
 use crate::names;
 use crate::sets;
 use record::Opcode;
 use record::Operand;
 use record::Width;
 
-fn all_in(first: u64, second: u64, q: Asked) -> bool
-    ensures { λ r. ⌜ r ≡ allIn first second q ⌝ }
+fn all_in(s: Sets, q: Asked) -> bool
+    ensures { λ r. ⌜ r ≡ allIn (s .0) (s .1) q ⌝ }
 {
     let size = q.size;
     let op0 = q.op0;
     let op1 = q.op1;
-    if sets::has_size(first, size) {
-        if sets::has(first, op0) {
-            return sets::has(second, op1);
+    if sets::has_size(s.0, size) {
+        if sets::has(s.0, op0) {
+            return sets::has(s.1, op1);
         }
     }
     false
@@ -36,17 +38,25 @@ fn number_goes(q: Asked) -> bool
     q.number < 64
 }
 
+// At no width.
+fn none_goes(s: Sets, q: Asked) -> bool
+    ensures { λ r. ⌜ r ≡ both (allIn (s .0) (s .1) q) (ltb (q .number) (numberLimit (q .op0))) ⌝ }
+{
+    if all_in(s, q) {
+        return number_goes(q);
+    }
+    false
+}
+
+// The sets are asked for where the width is known: a table for each is quicker than one that is found by the width.
 pub fn goes_with(o: Opcode, q: Asked) -> bool
     ensures { λ r. ⌜ r ≡ goesWith (formOf o) q ⌝ }
 {
     let width = q.width;
-    let s = sets::at(width, name_sets::form_of(o));
-    if all_in(s.0, s.1, q) {
-        return match width {
-            Width::B => true,
-            Width::W => true,
-            Width::None => number_goes(q),
-        };
+    let form = name_sets::form_of(o);
+    match width {
+        Width::B => all_in(name_sets::at_b(form), q),
+        Width::W => all_in(name_sets::at_w(form), q),
+        Width::None => none_goes(name_sets::at_none(form), q),
     }
-    false
 }

@@ -1,4 +1,4 @@
-// The direct choice of a code for what a record says: one clause an opcode.
+// The direct choice of a code that encodes a record: one clause an opcode.
 pub mod names; // what a name is, by its number
 pub mod asks; // what the choice asks of a key
 mod shapes; // codes that several opcodes have in common

@@ -1,13 +1,9 @@
 // Sets of names as numbers: bit n is the name of number n. A first set has the sizes' bits behind those of the names.
 ghost use mathlib.Core.Path.{_≡_};
 ghost use Rattle.record.specs.Numbers.{operandNo};
-ghost use Rattle.encode_choice.specs.steps.NameSet.{first, second, sizeBit, hasBit};
-use crate::name_sets;
-use crate::name_sets::Form;
-use crate::name_sets::Sets;
+ghost use Rattle.encode_choice.specs.steps.NameSet.{sizeBit, hasBit};
 use record::Operand;
 use record::Size;
-use record::Width;
 use record::numbers;
 
 // How many names an operand can have.
@@ -23,14 +19,4 @@ pub(crate) fn has_size(names: u64, s: Size) -> bool
     ensures { λ r. ⌜ r ≡ hasBit names (sizeBit s) ⌝ }
 {
     (names >> (NAMES + numbers::size_number(s))) % 2 == 1
-}
-
-pub(crate) fn at(w: Width, f: Form) -> Sets
-    ensures { λ r. ⌜ (r .0 ≡ first f w) × (r .1 ≡ second f w) ⌝ }
-{
-    match w {
-        Width::B => name_sets::at_b(f),
-        Width::W => name_sets::at_w(f),
-        Width::None => name_sets::at_none(f),
-    }
 }

@@ -35,7 +35,8 @@ spell-same (stop e ∷ rs) t s o i d f = refl
 
 -- the fields, from the operands' numbers
 module _ (t : Record) (k : Key) where
-  wide-is : (p q : Field) (b : Bool) → wides p + wides q ≤ 1 → valueOf (shared p q (other b)) t ≡ k .number0 → valueOf (shared q p b) t ≡ k .number1 → 1 ≤ wides p + wides q → t .«imm_wide» ≡ wideFor p k
+  wide-is : (p q : Field) (b : Bool) → wides p + wides q ≤ 1 → valueOf (shared p q (other b)) t ≡ k .number0 → valueOf (shared q p b) t ≡ k .number1
+      → 1 ≤ wides p + wides q → t .«imm_wide» ≡ wideFor p k
   wide-is wide q b o e f h = e
   wide-is nowhere wide b o e f h = f
   wide-is nowhere nowhere b o e f h = absurd (omega arith)

@@ -1,4 +1,4 @@
--- A row says a key by some bytes if and only if it can.
+-- A row encodes a key by some bytes if and only if it can.
 -- Assumes nothing.
 use Prim.Native.Nat.{ℕ, zero, suc, _+_, _≤_}
 use mathlib.Core.Path.{_≡_, refl, sym, ap, _∙_, subst₂}
@@ -37,24 +37,25 @@ exact-so early q b n m v t e f = refl
 exact-so wide q b zero m v t e f = eq-eqb _ _ (sym e ∙ f refl)
 exact-so wide q b (suc n) m v t e f = refl
 
--- a row that says a key can
+-- a row that encodes a key can
 pub says-can : (w : Row) (xs : List ℕ) (t : Record) (k : Key) → plain w ≡ true → Runs (w .reads) xs (w .face) (begun (w .number)) t → t .marked ≡ false → key t ≡ k → can w k ≡ true
 unfolding can fieldOf
 says-can w xs t k f q u s =
     let y = kept (w .reads) xs (w .face) (begun (w .number)) t q in
+    let face = y .faced in
     let l = lives w xs t q u in
     let p = plain-is w f l in
     both-so l
     (both-so (named-so (conds (w .reads)) (w .face .opcode) (k .opcode) (λ e. sym (y .opcode e) ∙ ap (λ x. x .opcode) s))
-    (both-so (eq-eqb _ _ (ap sizeNo (sym (y .size) ∙ ap (λ x. x .size) s)))
-    (both-so (eq-eqb _ _ (ap widthNo (sym (y .width) ∙ ap (λ x. x .width) s)))
-    (both-so (eq-eqb _ _ (ap operandNo (ap baseOf (sym (y .op0)) ∙ ap (λ x. x .base0) s)))
-    (both-so (eq-eqb _ _ (ap operandNo (ap baseOf (sym (y .op1)) ∙ ap (λ x. x .base1) s)))
-    (both-so (eq-eqb _ _ (ap operandNo (ap baseOf (sym (y .op2)) ∙ ap (λ x. x .base2) s)))
-    (both-so (eq-eqb _ _ (sym (ap (λ x. x .number2) s) ∙ ap (λ o. valueOf (fieldOf o) t) (y .op2)))
-    (both-so (exact-so (fieldOf (w .face .op0)) _ _ (imms (w .reads)) (w .number) (k .number0) t (zeroth (w .face) t k (y .op0) (y .op1) s) (y .number))
-    (both-so (exact-so (fieldOf (w .face .op1)) _ _ (imms (w .reads)) (w .number) (k .number1) t (oneth (w .face) t k (y .op0) (y .op1) s) (y .number))
-    (sym (fields (w .face) t k (y .op0) (y .op1) s (fits (w .reads)) (w .reads) (fits-same (w .reads) t) (omega (arith, p .disps)) (p .imms) (p .once))
+    (both-so (eq-eqb _ _ (ap sizeNo (sym (face .size) ∙ ap (λ x. x .size) s)))
+    (both-so (eq-eqb _ _ (ap widthNo (sym (face .width) ∙ ap (λ x. x .width) s)))
+    (both-so (eq-eqb _ _ (ap operandNo (ap baseOf (sym (face .op0)) ∙ ap (λ x. x .base0) s)))
+    (both-so (eq-eqb _ _ (ap operandNo (ap baseOf (sym (face .op1)) ∙ ap (λ x. x .base1) s)))
+    (both-so (eq-eqb _ _ (ap operandNo (ap baseOf (sym (face .op2)) ∙ ap (λ x. x .base2) s)))
+    (both-so (eq-eqb _ _ (sym (ap (λ x. x .number2) s) ∙ ap (λ o. valueOf (fieldOf o) t) (face .op2)))
+    (both-so (exact-so (fieldOf (w .face .op0)) _ _ (imms (w .reads)) (w .number) (k .number0) t (zeroth (w .face) t k (face .op0) (face .op1) s) (y .number))
+    (both-so (exact-so (fieldOf (w .face .op1)) _ _ (imms (w .reads)) (w .number) (k .number1) t (oneth (w .face) t k (face .op0) (face .op1) s) (y .number))
+    (sym (fields (w .face) t k (face .op0) (face .op1) s (fits (w .reads)) (w .reads) (fits-same (w .reads) t) (omega (arith, p .disps)) (p .imms) (p .once))
     ∙ fitting (w .reads) xs (w .face) (begun (w .number)) t (p .tidy) q))))))))))
 
 -- the operands' numbers, from the fields
@@ -79,7 +80,8 @@ module _ (n m : ℕ) (t : Record) (k : Key) (own : n ≡ 0 → t .«imm_wide» �
   back1 p nowhere b w x j d f = sym (eqb-true _ _ x)
   back1 p wide b w x j d f = from-wide p n own w x j
     where
-      from-wide : (p : Field) (n : ℕ) → (n ≡ 0 → t .«imm_wide» ≡ m) → wides p + 1 ≤ 1 → exact wide n m (k .number1) ≡ true → (1 ≤ n → t .«imm_wide» ≡ wideFor p k) → t .«imm_wide» ≡ k .number1
+      from-wide : (p : Field) (n : ℕ) → (n ≡ 0 → t .«imm_wide» ≡ m) → wides p + 1 ≤ 1 → exact wide n m (k .number1) ≡ true
+          → (1 ≤ n → t .«imm_wide» ≡ wideFor p k) → t .«imm_wide» ≡ k .number1
       from-wide p zero i w x j = i refl ∙ sym (eqb-true _ _ x)
       from-wide nowhere (suc n) i w x j = j (omega arith)
       from-wide short (suc n) i w x j = j (omega arith)
@@ -143,7 +145,7 @@ so-named : (n : ℕ) (o p x : Opcode) → named n o p ≡ true → (n ≡ 0 → 
 so-named zero o p x h e f = e refl ∙ opcodes-apart o p (eqb-true _ _ h)
 so-named (suc n) o p x h e f = f (omega arith)
 
--- a row that can say a key does
+-- a row that can encode a key does
 pub can-says : (w : Row) (k : Key) → plain w ≡ true → can w k ≡ true → Said w k
 unfolding aim fieldOf
 can-says w k f h =
@@ -155,6 +157,7 @@ can-says w k f h =
     let t = fill (w .reads) a (w .face) s in
     let q = reach (w .reads) a (w .face) s (l .1) (c .fitting) in
     let y = kept (w .reads) (spell (w .reads) a) (w .face) s t q in
+    let face = y .faced in
     let g = filled (w .reads) a (w .face) s (p .tidy) (l .1) (c .fitting) in
     let sp = sameName (w .face .op0) «Disp8_SP» in
     let z = back0 (imms (w .reads)) (w .number) t k (y .number) (fieldOf (w .face .op0)) (fieldOf (w .face .op1)) sp (p .once) (c .exact0) (g .number)
@@ -162,18 +165,18 @@ can-says w k f h =
     let o = back1 (imms (w .reads)) (w .number) t k (y .number) (fieldOf (w .face .op0)) (fieldOf (w .face .op1)) sp (p .once) (c .exact1) (g .number)
     (λ h. g .disp (omega (arith, p .disps))) (λ h. g .first (omega (arith, p .disps))) in
     let opcode : t .opcode ≡ k .opcode = so-named (conds (w .reads)) (w .face .opcode) (k .opcode) (t .opcode) (c .opcode) (y .opcode) (g .opcode) in
-    let size : t .size ≡ k .size = y .size ∙ c .size in
-    let width : t .width ≡ k .width = y .width ∙ c .width in
-    let base0 : baseOf (t .op0) ≡ k .base0 = ap baseOf (y .op0) ∙ c .base0 in
-    let base1 : baseOf (t .op1) ≡ k .base1 = ap baseOf (y .op1) ∙ c .base1 in
-    let base2 : baseOf (t .op2) ≡ k .base2 = ap baseOf (y .op2) ∙ c .base2 in
-    let number0 : valueOf (field0 (t .op0) (t .op1)) t ≡ k .number0 = subst₂ (λ x y. valueOf (field0 x y) t ≡ k .number0) (sym (y .op0)) (sym (y .op1)) z in
-    let number1 : valueOf (field1 (t .op0) (t .op1)) t ≡ k .number1 = subst₂ (λ x y. valueOf (field1 x y) t ≡ k .number1) (sym (y .op0)) (sym (y .op1)) o in
-    let number2 : valueOf (fieldOf (t .op2)) t ≡ k .number2 = ap (λ x. valueOf (fieldOf x) t) (y .op2) ∙ sym (c .number2) in
+    let size : t .size ≡ k .size = face .size ∙ c .size in
+    let width : t .width ≡ k .width = face .width ∙ c .width in
+    let base0 : baseOf (t .op0) ≡ k .base0 = ap baseOf (face .op0) ∙ c .base0 in
+    let base1 : baseOf (t .op1) ≡ k .base1 = ap baseOf (face .op1) ∙ c .base1 in
+    let base2 : baseOf (t .op2) ≡ k .base2 = ap baseOf (face .op2) ∙ c .base2 in
+    let number0 : valueOf (field0 (t .op0) (t .op1)) t ≡ k .number0 = subst₂ (λ x y. valueOf (field0 x y) t ≡ k .number0) (sym (face .op0)) (sym (face .op1)) z in
+    let number1 : valueOf (field1 (t .op0) (t .op1)) t ≡ k .number1 = subst₂ (λ x y. valueOf (field1 x y) t ≡ k .number1) (sym (face .op0)) (sym (face .op1)) o in
+    let number2 : valueOf (fieldOf (t .op2)) t ≡ k .number2 = ap (λ x. valueOf (fieldOf x) t) (face .op2) ∙ sym (c .number2) in
     record {
       into = t;
       runs = q;
-      unmarked = y .marked ∙ l .0;
+      unmarked = face .marked ∙ l .0;
       same = λ i. record {
         opcode = opcode i;
         size = size i;

@@ -22,7 +22,7 @@ take-bytes (suc k) [] h = tt
 take-bytes (suc k) (b ∷ bs) h = (h .0, take-bytes k bs (h .1))
 
 module _ (t : Table) where
-  -- the bytes taken say what the bytes say
+  -- the bytes taken encode what the bytes encode
   fore : (bs : List ℕ) (r : Record) → Says t bs r → Says t (take (decodeBy t bs .taken) bs) r
   fore bs r s =
       let l : length (take (decodeBy t bs .taken) bs) ≡ decodeBy t bs .taken = length-take-le (decodeBy t bs .taken) bs (counted t bs .within) in

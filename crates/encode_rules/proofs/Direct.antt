@@ -1,4 +1,4 @@
--- If a choice beats every code that can say the key, its bytes are the right answer.
+-- If a choice beats every code that can encode the key, its bytes are the right answer.
 -- Assumes nothing.
 use Prim.Native.Nat.{ℕ, zero, suc, _+_, _<_}
 use mathlib.Core.Path.{_≡_, refl, ap₂, _∙_, subst}
@@ -56,7 +56,7 @@ module _ (t : Table) (plains : (a b : ℕ) → t .known a ≡ true → b < 256 �
       let s = both-true _ _ (q .1) in
       record { first = ltb-true _ _ (q .0); second = ltb-true _ _ (s .0); here = s .1; does = p .1 }
 
-  -- bytes that say r have a code that can
+  -- bytes that encode r have a code that can
   code-can : (a b : ℕ) (xs : List ℕ) (r : Record) → Bytes (a ∷ b ∷ xs) → Says t (a ∷ b ∷ xs) r → able t a b (key r) ≡ true
   unfolding able
   code-can a b xs r h s =
@@ -64,7 +64,7 @@ module _ (t : Table) (plains : (a b : ℕ) → t .known a ≡ true → b < 256 �
       both-so (both-so (lt-ltb _ _ (h .0)) (both-so (lt-ltb _ _ (h .1 .0)) (q .known)))
       (says-can (t .rowAt a b) xs (q .into) (key r) (plains a b (q .known) (h .1 .0)) (q .runs) (q .unmarked) (q .same))
 
-  -- a code that can has bytes that say r
+  -- a code that can has bytes that encode r
   can-code : (a b : ℕ) (r : Record) → Able a b (key r) → Says t (bytesBy t a b (key r)) r
   unfolding bytesBy
   can-code a b r h =
@@ -100,14 +100,15 @@ module _ (t : Table) (plains : (a b : ℕ) → t .known a ≡ true → b < 256 �
       }
 
   module _ (choose : Key → Choice) (beats : (a b : ℕ) (k : Key) → able t a b k ≡ true → Beats t (choose k) a b k) where
-    -- bytes that say r come after the choice's
+    -- bytes that encode r come after the choice's
     abbrev After : Choice → Record → List ℕ → Type 0
     After c r xs = (x : ℕ) × (y : ℕ) × (c ≡ code x y) × (able t x y (key r) ≡ true) × Ahead (bytesBy t x y (key r)) xs
 
     after : (c : Choice) (r : Record) (xs : List ℕ) → ((a b : ℕ) → able t a b (key r) ≡ true → Beats t c a b (key r)) → Bytes xs → Says t xs r → After c r xs
     after c r xs f h s = says-two t (λ xs. Bytes xs → After c r xs) r (λ a b xs s h. at c f a b xs s h) xs s h
       where
-        at : (c : Choice) → ((a b : ℕ) → able t a b (key r) ≡ true → Beats t c a b (key r)) → (a b : ℕ) (xs : List ℕ) → Says t (a ∷ b ∷ xs) r → Bytes (a ∷ b ∷ xs) → After c r (a ∷ b ∷ xs)
+        at : (c : Choice) → ((a b : ℕ) → able t a b (key r) ≡ true → Beats t c a b (key r))
+            → (a b : ℕ) (xs : List ℕ) → Says t (a ∷ b ∷ xs) r → Bytes (a ∷ b ∷ xs) → After c r (a ∷ b ∷ xs)
         at (code x y) f a b xs s h =
             let q = code-can a b xs r h s in
             let g = f a b q in

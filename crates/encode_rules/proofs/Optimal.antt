@@ -141,7 +141,7 @@ module _ (t : Table) where
   unique r none (bytes ys) p q = absurd (p ys (q .bytes) (q .says))
   unique r none none p q = refl
 
-  -- bytes that say r have two bytes at least, a known first one, and a row that runs to the record
+  -- bytes that encode r have two bytes at least, a known first one, and a row that runs to the record
   pub record Ran (a b : ℕ) (xs : List ℕ) (r : Record) : Type 0 where
     pub into : Record
     pub known : t .known a ≡ true
@@ -163,7 +163,7 @@ module _ (t : Table) where
         same = s .same;
       }
 
-  -- and bytes whose row runs to such a record say r
+  -- and bytes whose row runs to such a record encode r
   pub back : (a b : ℕ) (xs : List ℕ) (r : Record) → Ran a b xs r → Says t (a ∷ b ∷ xs) r
   unfolding decodeBy runRow
   back a b xs r h =
@@ -173,7 +173,7 @@ module _ (t : Table) where
       ∙ to-run (w .reads) xs (a ∷ b ∷ xs) (w .face) (begun (w .number)) (h .into) (omega arith) refl (h .runs) in
       record { accepted = ap (λ x. x .refusal) e; unmarked = ap (λ x. x .inst .marked) e ∙ h .unmarked; same = ap (λ x. key (x .inst)) e ∙ h .same }
 
-  -- fewer than two bytes say nothing
+  -- fewer than two bytes encode nothing
   pub says-two : (P : List ℕ → Type 0) (r : Record) → ((a b : ℕ) (xs : List ℕ) → Says t (a ∷ b ∷ xs) r → P (a ∷ b ∷ xs)) → (xs : List ℕ) → Says t xs r → P xs
   unfolding decodeBy
   says-two P r f [] s = absurd (omega (arith, s .accepted))
@@ -184,7 +184,7 @@ module _ (t : Table) where
       no false z = omega arith
   says-two P r f (a ∷ b ∷ xs) s = f a b xs s
 
-  -- the search's test passes if the bytes say r, and only then
+  -- the search's test passes if the bytes encode r, and only then
   pub says-so : (xs : List ℕ) (r : Record) → Says t xs r → agrees (decodeBy t xs) (key r) ≡ true
   says-so xs r s = both-so (eq-eqb _ _ (s .accepted)) (both-so (ap other (s .unmarked)) (same-so _ (key r) (s .same)))
 
@@ -194,7 +194,7 @@ module _ (t : Table) where
       let q = both-true _ _ (p .1) in
       record { accepted = eqb-true _ _ (p .0); unmarked = unmarked _ (q .0); same = so-same _ (key r) (q .1) }
 
-  -- so it takes the bytes it makes for a code if they say r
+  -- so it takes the bytes it makes for a code if they encode r
   taken-so : (a b : ℕ) (r : Record) → Says t (bytesBy t a b (key r)) r → try t a b (key r) ≡ bytes (bytesBy t a b (key r))
   unfolding try
   taken-so a b r s = ap (λ x. pick x (bytes (bytesBy t a b (key r))) none) (says-so (bytesBy t a b (key r)) r s)
@@ -211,7 +211,7 @@ module _ (t : Table) where
       by false k f = let z : _≡_ {A = ℕ} 0 1 = cc in absurd (omega arith)
 
   module _ (plains : (a b : ℕ) → t .known a ≡ true → b < 256 → plain (t .rowAt a b) ≡ true) where
-    -- if any bytes with a code say r, then so do those that the search makes for this code, and they are ahead
+    -- if any bytes with a code encode r, then so do those that the search makes for this code, and they are ahead
     pub by-code : (a b : ℕ) (xs : List ℕ) (r : Record) → Bytes (a ∷ b ∷ xs) → Says t (a ∷ b ∷ xs) r
         → Says t (bytesBy t a b (key r)) r × Ahead (bytesBy t a b (key r)) (a ∷ b ∷ xs)
     unfolding bytesBy
@@ -222,7 +222,7 @@ module _ (t : Table) where
         let p = plain-is w (plains a b (q .known) (h .1 .0)) (lives w xs (q .into) (q .runs) (q .unmarked)) in
         let l = least (w .reads) xs (w .face) (begun (w .number)) (q .into) (p .tidy) (q .runs) in
         let e : spell (w .reads) (q .into) ≡ spell (w .reads) (aim (w .face) (key r)) =
-        aimed (w .face) (q .into) (key r) (f .op0) (f .op1) (q .same) (w .reads) (omega (arith, p .disps)) (p .imms) (p .once) in (
+        aimed (w .face) (q .into) (key r) (f .faced .op0) (f .faced .op1) (q .same) (w .reads) (omega (arith, p .disps)) (p .imms) (p .once) in (
           back a b (spell (w .reads) (aim (w .face) (key r))) r (record {
             into = q .into;
             known = q .known;

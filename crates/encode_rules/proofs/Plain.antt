@@ -44,4 +44,4 @@ live-is w e = let b = both-true _ _ e in (unmarked (w .face .marked) (b .0), eqb
 pub lives : (w : Row) (xs : List ℕ) (t : Record) → Runs (w .reads) xs (w .face) (begun (w .number)) t → t .marked ≡ false → live w ≡ true
 lives w xs t q u =
     let k = kept (w .reads) xs (w .face) (begun (w .number)) t q in
-    ap₂ (λ m e. both (other m) (eqb e 0)) (sym (k .marked) ∙ u) (no-stop (w .reads) xs (w .face) (begun (w .number)) t q)
+    ap₂ (λ m e. both (other m) (eqb e 0)) (sym (k .faced .marked) ∙ u) (no-stop (w .reads) xs (w .face) (begun (w .number)) t q)

@@ -20,14 +20,17 @@ use Rattle.encode_rules.proofs.Condition.{condition}
 use Rattle.encode_rules.proofs.Runs.{Runs}
 use Rattle.encode_rules.proofs.Order.{Below}
 
--- what reads leave as it was
-pub record Kept (rs : List Read) (f : Face) (s : Seen) (t : Record) : Type 0 where
+-- what reads leave as it was: the face but for its opcode, and what none of them reads
+pub record Faced (f : Face) (t : Record) : Type 0 where
   pub size : t .size ≡ f .size
   pub width : t .width ≡ f .width
   pub op0 : t .op0 ≡ f .op0
   pub op1 : t .op1 ≡ f .op1
   pub op2 : t .op2 ≡ Nothing
   pub marked : t .marked ≡ f .marked
+
+pub record Kept (rs : List Read) (f : Face) (s : Seen) (t : Record) : Type 0 where
+  pub faced : Faced f t
   pub opcode : conds rs ≡ 0 → t .opcode ≡ f .opcode
   pub number : imms rs ≡ 0 → t .«imm_wide» ≡ s .«imm_wide»
   pub same : disps rs ≡ 0 → t .dispabs ≡ s .dispabs
@@ -38,23 +41,35 @@ pub kept : (rs : List Read) (xs : List ℕ) (f : Face) (s : Seen) (t : Record) �
 unfolding disps imms conds
 kept [] xs f s t q =
     record {
-      size = sym (ap (λ x. x .size) q);
-      width = sym (ap (λ x. x .width) q);
-      op0 = sym (ap (λ x. x .op0) q);
-      op1 = sym (ap (λ x. x .op1) q);
-      op2 = sym (ap (λ x. x .op2) q);
-      marked = sym (ap (λ x. x .marked) q);
+      faced = record {
+        size = sym (ap (λ x. x .size) q);
+        width = sym (ap (λ x. x .width) q);
+        op0 = sym (ap (λ x. x .op0) q);
+        op1 = sym (ap (λ x. x .op1) q);
+        op2 = sym (ap (λ x. x .op2) q);
+        marked = sym (ap (λ x. x .marked) q);
+      };
       opcode = λ _. sym (ap (λ x. x .opcode) q);
       number = λ _. sym (ap (λ x. x .«imm_wide») q);
       same = λ _. sym (ap (λ x. x .dispabs) q);
       held = λ _. sym (ap (λ x. x .first) q);
       moved = λ e. absurd (omega arith);
     }
-kept (num (disp zero) ∷ rs) xs f s t q = let k = kept rs xs f s t q in record { size = k .size; width = k .width; op0 = k .op0; op1 = k .op1; op2 = k .op2; marked = k .marked; opcode = k .opcode; number = k .number; same = k .same; held = k .held; moved = k .moved }
-kept (num (disp (suc n)) ∷ rs) xs f s t (v, rest, e, h, q) = let k = kept rs rest f (withDisp (suc n) v s) t q in record { size = k .size; width = k .width; op0 = k .op0; op1 = k .op1; op2 = k .op2; marked = k .marked; opcode = k .opcode; number = k .number; same = λ e. absurd (omega arith); held = λ e. absurd (omega arith); moved = λ e. k .held (omega arith) }
-kept (num (imm n) ∷ rs) xs f s t (v, rest, e, h, q) = let k = kept rs rest f _ t q in record { size = k .size; width = k .width; op0 = k .op0; op1 = k .op1; op2 = k .op2; marked = k .marked; opcode = k .opcode; number = λ e. absurd (omega arith); same = k .same; held = k .held; moved = k .moved }
-kept (num imm20 ∷ rs) xs f s t (v, rest, e, h, q) = let k = kept rs rest f _ t q in record { size = k .size; width = k .width; op0 = k .op0; op1 = k .op1; op2 = k .op2; marked = k .marked; opcode = k .opcode; number = λ e. absurd (omega arith); same = k .same; held = k .held; moved = k .moved }
-kept (cond ∷ rs) xs f s t (v, rest, e, h, (o, c, q)) = let k = kept rs rest (renamed o f) (past s) t q in record { size = k .size; width = k .width; op0 = k .op0; op1 = k .op1; op2 = k .op2; marked = k .marked; opcode = λ e. absurd (omega arith); number = k .number; same = k .same; held = k .held; moved = k .moved }
+kept (num (disp zero) ∷ rs) xs f s t q = let k = kept rs xs f s t q in record { faced = k .faced; opcode = k .opcode; number = k .number; same = k .same; held = k .held; moved = k .moved }
+kept (num (disp (suc n)) ∷ rs) xs f s t (v, rest, e, h, q) =
+    let k = kept rs rest f (withDisp (suc n) v s) t q in
+    record { faced = k .faced; opcode = k .opcode; number = k .number; same = λ e. absurd (omega arith); held = λ e. absurd (omega arith); moved = λ e. k .held (omega arith) }
+kept (num (imm n) ∷ rs) xs f s t (v, rest, e, h, q) =
+    let k = kept rs rest f _ t q in
+    record { faced = k .faced; opcode = k .opcode; number = λ e. absurd (omega arith); same = k .same; held = k .held; moved = k .moved }
+kept (num imm20 ∷ rs) xs f s t (v, rest, e, h, q) =
+    let k = kept rs rest f _ t q in
+    record { faced = k .faced; opcode = k .opcode; number = λ e. absurd (omega arith); same = k .same; held = k .held; moved = k .moved }
+kept (cond ∷ rs) xs f s t (v, rest, e, h, (o, c, q)) =
+    let k = kept rs rest (renamed o f) (past s) t q in
+    let r = k .faced in
+    let faced : Faced f t = record { size = r .size; width = r .width; op0 = r .op0; op1 = r .op1; op2 = r .op2; marked = r .marked } in
+    record { faced = faced; opcode = λ e. absurd (omega arith); number = k .number; same = k .same; held = k .held; moved = k .moved }
 kept (stop x ∷ rs) xs f s t q = absurd q
 
 -- reads that made a record do not end in a refusal
@@ -109,14 +124,16 @@ least (num (imm n) ∷ rs) xs f s t c (v, rest, e, h, q) =
     let k = least rs rest f _ t (b .1) q in
     let g = kept rs rest f _ t q in
     let u : t .«imm_wide» ≡ v = g .number (eqb-true _ _ (b .0)) ∙ mod-eq-of-lt h in
-    record { more = k .more; below = one n _ v xs rest (spell rs t) (k .more) e u (k .below); again = (t .«imm_wide», spell rs t, refl, rw u h, subst (λ m. Runs rs (spell rs t) f (withImm n (m % 256 ^ n) s) t) (sym u) (k .again)) }
+    record { more = k .more; below = one n _ v xs rest (spell rs t) (k .more) e u (k .below); 
+      again = (t .«imm_wide», spell rs t, refl, rw u h, subst (λ m. Runs rs (spell rs t) f (withImm n (m % 256 ^ n) s) t) (sym u) (k .again)) }
 least (num imm20 ∷ rs) xs f s t c (v, rest, e, h, q) =
     let b = both-true _ _ c in
     let k = least rs rest f _ t (b .1) q in
     let g = kept rs rest f _ t q in
     let u : t .«imm_wide» ≡ v % twentyBits = g .number (eqb-true _ _ (b .0)) in
     let w : t .«imm_wide» % twentyBits ≡ v % twentyBits = omega arith in
-    record { more = k .more; below = masked _ v xs rest (spell rs t) (k .more) e u (k .below); again = (t .«imm_wide», spell rs t, refl, omega arith, subst (λ m. Runs rs (spell rs t) f (withImm 3 m s) t) (sym w) (k .again)) }
+    record { more = k .more; below = masked _ v xs rest (spell rs t) (k .more) e u (k .below); 
+      again = (t .«imm_wide», spell rs t, refl, omega arith, subst (λ m. Runs rs (spell rs t) f (withImm 3 m s) t) (sym w) (k .again)) }
 least (cond ∷ rs) xs f s t c (v, rest, e, h, (o, g, q)) =
     let b = both-true _ _ c in
     let k = least rs rest (renamed o f) (past s) t (b .1) q in

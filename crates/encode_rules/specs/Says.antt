@@ -40,7 +40,7 @@ module _ (t : Table) where
     pub says : Says bs r
     pub least : (xs : List ℕ) → Bytes xs → Says xs r → Ahead bs xs
 
-  -- what was found for r is right: the best bytes, or none where no bytes say r
+  -- what was found for r is right: the best bytes, or none where no bytes encode r
   abbrev pub Right : Record → Found → Type 0
   Right r (bytes bs) = Best r bs
   Right r none = (xs : List ℕ) → Bytes xs → Says xs r → ⊥

@@ -1,4 +1,4 @@
--- Demand 3: what encoding returns, and what it leaves of the buffer that it was lent.
+-- Demand 3: what encoding returns, and what it leaves of the buffer that was passed in.
 use Prim.Native.Nat.{ℕ, _+_}
 use mathlib.Core.Path.{_≡_}
 use mathlib.Core.List.{List, _++_}

@@ -119,7 +119,7 @@ span short = 5
 span early = 5
 
 module _ (t : Table) (choose : Key → Choice) where
-  -- the choice's row v at x y can say the key, and comes no later than the row w at a b
+  -- the choice's row v at x y can encode the key, and comes no later than the row w at a b
   abbrev pub before : Row → ℕ → ℕ → Row → ℕ → ℕ → Key → Bool
   before v x y w a b k = both (both (there t x y) (can v k)) (firstb (rank v x y) (rank w a b))
 

@@ -1,4 +1,4 @@
--- Whether a row can say a key, with no bytes: names agree and each number fits where the row reads it, or is the row's own.
+-- Whether a row can encode a key, with no bytes: names agree and each number fits where the row reads it, or is the row's own.
 use Prim.Native.Nat.{ℕ, zero, suc, _^_}
 use mathlib.Core.Bool.{Bool, true}
 use mathlib.Core.List.{List, [], _∷_}

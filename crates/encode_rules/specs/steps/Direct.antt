@@ -25,7 +25,7 @@ module _ (t : Table) where
   abbrev pub there : ℕ → ℕ → Bool
   there a b = both (ltb a 256) (both (ltb b 256) (t .known a))
 
-  -- and that can say the key
+  -- and that can encode the key
   unfoldable pub able : ℕ → ℕ → Key → Bool
   able a b k = both (there a b) (can (t .rowAt a b) k)
 

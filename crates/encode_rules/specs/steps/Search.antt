@@ -1,4 +1,4 @@
--- The least bytes by which each code can say a key, and the least of those: an answer by search, which a direct encoder is measured against.
+-- The least bytes by which each code can encode a key, and the least of those: an answer by search, which a direct encoder is measured against.
 use Prim.Native.Nat.{ℕ, zero, suc, _+_, _/_, _%_}
 use mathlib.Core.Bool.{Bool, true, false}
 use mathlib.Core.List.{List, [], _∷_, _++_}
@@ -191,7 +191,7 @@ leastOf f zero = none
 leastOf f (suc k) = better (f k) (leastOf f k)
 
 module _ (t : Table) where
-  -- the bytes by which the code a b would say a key, if it can
+  -- the bytes by which the code a b would encode a key, if it can
   unfoldable pub bytesBy : ℕ → ℕ → Key → List ℕ
   bytesBy a b k = a ∷ b ∷ spell (t .rowAt a b .reads) (aim (t .rowAt a b .face) k)
 

@@ -22,4 +22,8 @@ other c =
 
 pub narrow-spec : {M : Type 1} → statement M
 unfolding sameName
-narrow-spec = tie.close (tie.spec (λ c. search needs) (λ c κs. search needs) (λ c. search needs) (λ c κs. search needs) (λ c. search needs) (λ c κs. search needs) (λ c. told (c .before .before .before) (c .before .enum-told .given .1) (c .by-number .ensures)) (λ c. told (c .before .before .before) (c .before .enum-told2 .given .1) (c .by-number2 .ensures)) (λ c. told (c .before .before .before) (c .before .enum-told3 .given .1) (c .by-number3 .ensures)) other)
+narrow-spec =
+    tie.close (tie.spec (λ c. search needs) (λ c κs. search needs) (λ c. search needs) (λ c κs. search needs) (λ c. search needs) (λ c κs. search needs)
+    (λ c. told (c .before .before .before) (c .before .enum-told .given .1) (c .by-number .ensures))
+    (λ c. told (c .before .before .before) (c .before .enum-told2 .given .1) (c .by-number2 .ensures))
+    (λ c. told (c .before .before .before) (c .before .enum-told3 .given .1) (c .by-number3 .ensures)) other)

@@ -10,13 +10,13 @@ use Rattle.encode_choice.proofs.forms.all_in.Statement.{statement}
 use Rattle.encode_choice.proofs.forms.all_in.Tie as tie
 
 abbrev size : tie.Start → Bool
-size x = hasBit (x .args .first) (sizeBit (x .args .q .size))
+size x = hasBit (x .args .s .0) (sizeBit (x .args .q .size))
 
 abbrev first : tie.Start → Bool
-first x = hasBit (x .args .first) (operandNo (x .args .q .op0))
+first x = hasBit (x .args .s .0) (operandNo (x .args .q .op0))
 
 abbrev second : tie.Start → Bool
-second x = hasBit (x .args .second) (operandNo (x .args .q .op1))
+second x = hasBit (x .args .s .1) (operandNo (x .args .q .op1))
 
 sized : (t : tie.After-has-size) {b : Bool} → t .has-size .result ≡ b → b ≡ size (t .before)
 sized t e = sym (sym (t .has-size .ensures) ∙ e)

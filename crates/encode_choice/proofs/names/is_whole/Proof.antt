@@ -13,9 +13,10 @@ returns c =
 
 returns-2 : tie.Need-returns-2
 returns-2 c =
-    let args = c .before .before .before .before .before .args in
-    c .same2 .ensures
-    ∙ whole-second (args .w) (args .o) (sym (c .before .before .before .before .width-number .ensures) ∙ c .before .before .before .if1 .taken) (sym (c .before .before .same .ensures) ∙ c .before .if2 .left)
+    let t = c .before .before in
+    let u = t .before in
+    let args = u .before .before .args in
+    c .same2 .ensures ∙ whole-second (args .w) (args .o) (sym (u .before .width-number .ensures) ∙ u .if1 .taken) (sym (t .same .ensures) ∙ c .before .if2 .left)
 
 returns-3 : tie.Need-returns-3
 returns-3 c = whole-none (c .before .before .args .w) (c .before .before .args .o) (λ e. c .if1 .left (c .before .width-number .ensures ∙ e))

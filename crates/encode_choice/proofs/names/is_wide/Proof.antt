@@ -19,7 +19,9 @@ returns-2 c = tested (λ o. true) (λ o. isWide (fieldOf o)) (keys (Abs20 ∷ Di
 
 returns-3 : tie.Need-returns-3
 unfolding sameName among fieldOf
-returns-3 c = tested (λ o. false) (λ o. isWide (fieldOf o)) (others (Imm4 ∷ Imm8 ∷ Imm16 ∷ RegList ∷ Abs20 ∷ Disp8 ∷ «Disp20_A0» ∷ «Disp20_A1» ∷ [])) tt (c .before .args .o) (c .match .keys3)
+returns-3 c =
+    tested (λ o. false) (λ o. isWide (fieldOf o)) (others (Imm4 ∷ Imm8 ∷ Imm16 ∷ RegList ∷ Abs20 ∷ Disp8 ∷ «Disp20_A0» ∷ «Disp20_A1» ∷ [])) tt
+    (c .before .args .o) (c .match .keys3)
 
 pub is-wide-spec : {M : Type 1} → statement M
 is-wide-spec = tie.close (tie.spec returns returns-2 returns-3)

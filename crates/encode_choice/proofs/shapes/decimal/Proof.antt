@@ -12,7 +12,8 @@ use Rattle.encode_choice.proofs.OrImm.{or-imm}
 use Rattle.encode_choice.proofs.shapes.decimal.Statement.{statement}
 use Rattle.encode_choice.proofs.shapes.decimal.Tie as tie
 
-by : (x : tie.Start) {b : Bool} → isWide (fieldOf (x .args .q .op0)) ≡ b → coded (pick b (choice.only 0x7C (0xEC + x .args .i) (x .args .q)) (choice.only 0x7C (0xE4 + x .args .i) (x .args .q))) ≡ coded (choice.decimal (x .args .i) (x .args .q))
+by : (x : tie.Start) {b : Bool} → isWide (fieldOf (x .args .q .op0)) ≡ b
+    → coded (pick b (choice.only 0x7C (0xEC + x .args .i) (x .args .q)) (choice.only 0x7C (0xE4 + x .args .i) (x .args .q))) ≡ coded (choice.decimal (x .args .i) (x .args .q))
 by x = or-imm (choice.only 0x7C (0xEC + x .args .i) (x .args .q)) (choice.only 0x7C (0xE4 + x .args .i) (x .args .q)) (x .args .q)
 
 returns : tie.Need-returns

@@ -24,4 +24,6 @@ returns-3 : tie.Need-returns-3
 returns-3 c = rw (sym (c .before .before .before .same .ensures) ∙ c .before .before .if1 .left) (rw (sym (c .before .same2 .ensures) ∙ c .if2 .left) refl)
 
 pub half-spec : {M : Type 1} → statement M
-half-spec = tie.close (tie.spec (λ c κs. search needs) (λ c. search needs) (λ c κs. search needs) (λ c. search needs) returns (λ c κs. search needs) (λ c. search needs) (λ c. search needs) (λ c κs. search needs) (λ c. search needs) returns-2 returns-3)
+half-spec =
+    tie.close (tie.spec (λ c κs. search needs) (λ c. search needs) (λ c κs. search needs) (λ c. search needs)
+    returns (λ c κs. search needs) (λ c. search needs) (λ c. search needs) (λ c κs. search needs) (λ c. search needs) returns-2 returns-3)

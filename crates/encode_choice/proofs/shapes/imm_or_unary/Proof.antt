@@ -11,7 +11,8 @@ use Rattle.encode_choice.proofs.shapes.imm_or_unary.Statement.{statemen
 use Rattle.encode_choice.proofs.shapes.imm_or_unary.Tie as tie
 
 by : (t : tie.After-is-wide) {b : Bool} → t .is-wide .result ≡ b
-    → let args = t .before .args in coded (pick b (choice.only 0x7C (args .b) (args .q)) (choice.unary (args .f) (args .h) (args .q))) ≡ coded (choice.immOrUnary (args .b) (args .f) (args .h) (args .q))
+    → let args = t .before .args in
+    coded (pick b (choice.only 0x7C (args .b) (args .q)) (choice.unary (args .f) (args .h) (args .q))) ≡ coded (choice.immOrUnary (args .b) (args .f) (args .h) (args .q))
 by t e =
     let args = t .before .args in
     or-imm (choice.only 0x7C (args .b) (args .q)) (choice.unary (args .f) (args .h) (args .q)) (args .q) (sym (t .is-wide .ensures) ∙ e)

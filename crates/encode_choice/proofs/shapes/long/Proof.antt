@@ -19,4 +19,6 @@ returns-2 c =
     rw (sym (c .before .before .same .ensures) ∙ c .before .if1 .left) (ap (λ n. coded (code 0xEB (16 * (args .s + n) + 1))) (c .code-of2 .ensures .0))
 
 pub long-spec : {M : Type 1} → statement M
-long-spec = tie.close (tie.spec (λ c κs. search needs) (λ c. search needs) (λ c κs. search needs) (λ c. search needs) (λ c. search needs) (λ c. search needs) (λ c. search needs) returns (λ c κs. search needs) (λ c. search needs) (λ c. search needs) (λ c. search needs) returns-2)
+long-spec =
+    tie.close (tie.spec (λ c κs. search needs) (λ c. search needs) (λ c κs. search needs) (λ c. search needs) (λ c. search needs) (λ c. search needs) (λ c. search needs)
+    returns (λ c κs. search needs) (λ c. search needs) (λ c. search needs) (λ c. search needs) returns-2)

@@ -19,4 +19,6 @@ told v n t e =
     subst (λ w. (n ≡ choice.word w) × (n ≤ 1)) (sym e) (eqb-true _ _ (x .0), leb-true _ _ (x .1))
 
 pub word-spec : {M : Type 1} → statement M
-word-spec = tie.close (tie.spec (λ c. search needs) (λ c. search needs) (λ c. search needs) (λ c. told B 0 tt (c .enum-told .given .1)) (λ c. told W 1 tt (c .enum-told2 .given .1)) (λ c. told None 1 tt (c .enum-told3 .given .1)))
+word-spec =
+    tie.close (tie.spec (λ c. search needs) (λ c. search needs) (λ c. search needs)
+    (λ c. told B 0 tt (c .enum-told .given .1)) (λ c. told W 1 tt (c .enum-told2 .given .1)) (λ c. told None 1 tt (c .enum-told3 .given .1)))
