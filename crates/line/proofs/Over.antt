@@ -33,21 +33,21 @@ from-one at c cs l h =
     ∙ ap (λ k. from k cs (set l at c)) (sym (add-one at))
 
 module _ (at : ℕ) (l xs : List ℕ) (h : at + length xs ≤ length l) {ys : List ℕ} (e : ys ≡ over xs (take (length l - at) (drop at l))) where
-  -- the buffer once a text was written over what was lent of it
-  pub lent : putMid at (length l - at) l ys ≡ from at xs l
-  lent = given-back at l (omega arith) ys ∙ ap (λ z. take at l ++ z) (e ∙ ap (over xs) (rest at l))
+  -- the buffer once a text was written over the part that was passed on
+  pub part : putMid at (length l - at) l ys ≡ from at xs l
+  part = given-back at l (omega arith) ys ∙ ap (λ z. take at l ++ z) (e ∙ ap (over xs) (rest at l))
 
-  pub lent-length : length (putMid at (length l - at) l ys) ≡ length l
-  lent-length =
-      ap length lent ∙ length-append (take at l) (over xs (drop at l))
+  pub part-length : length (putMid at (length l - at) l ys) ≡ length l
+  part-length =
+      ap length part ∙ length-append (take at l) (over xs (drop at l))
       ∙ omega (arith, length-append xs (drop (length xs) (drop at l)), length-take-le at l (omega arith), length-drop (length xs) (drop at l), length-drop at l)
 
   -- and what is still to be written behind it
-  pub lent-on : (zs : List ℕ) {n : ℕ} → n ≡ length xs → from at (xs ++ zs) l ≡ from (at + n) zs (putMid at (length l - at) l ys)
-  lent-on zs {n} g =
+  pub part-on : (zs : List ℕ) {n : ℕ} → n ≡ length xs → from at (xs ++ zs) l ≡ from (at + n) zs (putMid at (length l - at) l ys)
+  part-on zs {n} g =
       let p = take at l ++ xs in
       let q = drop (length xs) (drop at l) in
-      let m : putMid at (length l - at) l ys ≡ p ++ q = lent ∙ sym (append-assoc (take at l) xs q) in
+      let m : putMid at (length l - at) l ys ≡ p ++ q = part ∙ sym (append-assoc (take at l) xs q) in
       let s : length p ≡ at + n = omega (arith, length-append (take at l) xs, length-take-le at l (omega arith)) in
       let d : drop (length (xs ++ zs)) (drop at l) ≡ drop (length zs) q =
       ap (λ k. drop k (drop at l)) (length-append xs zs) ∙ sym (drop-drop (length zs) (length xs) (drop at l))

@@ -7,7 +7,7 @@ use lib.Dec.{leb}
 use Rattle.laws.specs.Choice.{pick}
 use Rattle.line.specs.declared.Written.{Written}
 
-pub record Left : Type 0 where
+pub record Delivered : Type 0 where
   pub written : Written
   pub buffer : List ℕ
 
@@ -16,7 +16,7 @@ abbrev pub over : List ℕ → List ℕ → List ℕ
 over xs bs = xs ++ drop (length xs) bs
 
 -- the text's length and the text; or 6 with too little room, and every byte as it was
-unfoldable pub left : List ℕ → List ℕ → Left
+unfoldable pub left : List ℕ → List ℕ → Delivered
 left xs bs =
     pick (leb (length xs) (length bs))
     (record { written = record { refusal = 0; length = length xs }; buffer = over xs bs })

@@ -11,7 +11,8 @@ use Rattle.record.specs.Numbers.{operandNo}
 use Rattle.manual.specs.Meaning.{Suffix, none, B, W, L, A, plus, minus, Spot, nothing, plain, behind, within, carry, counter, flag, Meaning, Entry, meaning, empty}
 use Rattle.manual.specs.Bits.{Condition, named, unnamed}
 use Rattle.manual.specs.Packed.{suffixNo, digits, spotNo, packed, packedCondition}
-use Rattle.record.proofs.Apart.{operandAt, operand-at, opcodes-apart}
+use Rattle.record.proofs.At.{operand-at}
+use Rattle.record.proofs.Apart.{operandAt, opcodes-apart}
 
 -- the numbers whose digits an operand's number is made of
 record Parts : Type 0 where

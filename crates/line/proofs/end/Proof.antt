@@ -10,8 +10,9 @@ use Rattle.line.proofs.end.Tie as tie
 
 returns : tie.Need-returns
 returns c =
-    let start = c .before .before .before .before .before .before .before .args in
-    let e = ap text (c .before .before .before .before .before .end-words .ensures) ∙ ending (start .place) in
+    let made = c .before .before .before .before .before in
+    let start = made .before .before .args in
+    let e = ap text (made .end-words .ensures) ∙ ending (start .place) in
     said (start .out .now) e (c .before .before .deliver .ensures)
 
 pub end-spec : {M : Type 1} → statement M

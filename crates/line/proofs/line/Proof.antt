@@ -11,9 +11,10 @@ use Rattle.line.proofs.line.Tie as tie
 
 returns : tie.Need-returns
 returns c =
-    let start = c .before .before .before .before .before .before .before .before .before .args in
-    let parted = c .before .before .before .before .before .words-of .ensures in
-    let e = ap text (parted ∙ (λ i. c .before .before .before .before .before .before .before .place-word .ensures i ∷ c .before .before .before .before .before .before .length-word .ensures i ∷ map pack (parts (start .r)))) ∙ whole (start .place) (start .r) in
+    let made = c .before .before .before .before .before in
+    let start = made .before .before .before .before .args in
+    let parted = made .words-of .ensures ∙ (λ i. made .before .before .place-word .ensures i ∷ made .before .length-word .ensures i ∷ map pack (parts (start .r))) in
+    let e = ap text parted ∙ whole (start .place) (start .r) in
     said (start .out .now) e (c .before .before .deliver .ensures)
 
 pub line-spec : {M : Type 1} → statement M

@@ -10,8 +10,9 @@ use Rattle.line.proofs.line_from_width.Tie as tie
 
 returns : tie.Need-returns
 returns c =
-    let start = c .before .before .before .before .before .before .before .args in
-    let e = ap text (c .before .before .before .before .before .words-of .ensures) ∙ from-width (start .r) in
+    let made = c .before .before .before .before .before in
+    let start = made .before .before .args in
+    let e = ap text (made .words-of .ensures) ∙ from-width (start .r) in
     said (start .out .now) e (c .before .before .deliver .ensures)
 
 pub line-from-width-spec : {M : Type 1} → statement M

@@ -10,8 +10,9 @@ use Rattle.line.proofs.refused.Tie as tie
 
 returns : tie.Need-returns
 returns c =
-    let start = c .before .before .before .before .before .before .before .args in
-    let e = ap text (c .before .before .before .before .before .refused-words .ensures) ∙ refusing (start .place) (start .refusal) (start .taken) in
+    let made = c .before .before .before .before .before in
+    let start = made .before .before .args in
+    let e = ap text (made .refused-words .ensures) ∙ refusing (start .place) (start .refusal) (start .taken) in
     said (start .out .now) e (c .before .before .deliver .ensures)
 
 pub refused-spec : {M : Type 1} → statement M

@@ -9,7 +9,7 @@ use Rattle.line.specs.Left.{over}
 use Rattle.line.specs.steps.Packed.{chars, text}
 use Rattle.line.proofs.Packing.{text-at, text-length, text-end}
 use Rattle.laws.proofs.Rest.{rest}
-use Rattle.line.proofs.Over.{from, from-none, lent-on, lent-length}
+use Rattle.line.proofs.Over.{from, from-none, part-on, part-length}
 use Rattle.line.proofs.write.write_all.Statement.{statement}
 use Rattle.line.proofs.write.write_all.Tie as tie
 
@@ -37,22 +37,24 @@ write-word-requires c κs =
 
 add-at : tie.Need-add-at Inv-loop μ-loop
 add-at c =
-    let l = c .before .before .before .before .before .before .loop in
-    let start = c .before .before .before .before .before .before .before .before .before in
+    let at = c .before .before .before .before .before .before in
+    let l = at .loop in
+    let start = at .before .before .before in
     omega (arith, start .pre, text-length (l .next) (start .args .words .now) (omega arith))
 
 loop-again : tie.Need-loop-again Inv-loop μ-loop
 loop-again c =
-    let l = c .before .before .before .before .before .before .loop in
-    let start = c .before .before .before .before .before .before .before .before .before in
+    let at = c .before .before .before .before .before .before in
+    let l = at .loop in
+    let start = at .before .before .before in
     let ws = start .args .words .now in
     let w = c .before .before .write-word in
     let n = text-length (l .next) ws (omega arith) in
     let zs = text (drop (l .next + 1) ws) in (
       omega arith,
-      lent-length (l .at) (l .out) (chars (getD ws (l .next) 0)) (omega (arith, start .pre)) (w .ensures .1) ∙ l .inv .1,
+      part-length (l .at) (l .out) (chars (getD ws (l .next) 0)) (omega (arith, start .pre)) (w .ensures .1) ∙ l .inv .1,
       omega (arith, w .ensures .0),
-      sym (lent-on (l .at) (l .out) (chars (getD ws (l .next) 0)) (omega (arith, start .pre)) (w .ensures .1) zs (w .ensures .0))
+      sym (part-on (l .at) (l .out) (chars (getD ws (l .next) 0)) (omega (arith, start .pre)) (w .ensures .1) zs (w .ensures .0))
           ∙ ap (λ xs. from (l .at) xs (l .out)) (sym (text-at (l .next) ws (omega arith))) ∙ l .inv .3,
     )
 
@@ -66,4 +68,7 @@ returns c =
     sym (from-none (l .at) (l .out)) ∙ ap (λ xs. from (l .at) xs (l .out)) (sym e) ∙ l .inv .3
 
 pub write-all-spec : {M : Type 1} → statement M
-write-all-spec = tie.close (tie.spec Inv-loop μ-loop loop-holds (λ c. search needs) (λ c. search needs) sub-write-word part-write-word-start (λ c. search needs) write-word-requires add-at (λ c. search needs) (λ c. search needs) loop-again same-length returns)
+write-all-spec =
+    tie.close
+    (tie.spec Inv-loop μ-loop loop-holds (λ c. search needs) (λ c. search needs) sub-write-word part-write-word-start (λ c. search needs) write-word-requires add-at
+    (λ c. search needs) (λ c. search needs) loop-again same-length returns)
