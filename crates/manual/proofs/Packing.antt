@@ -48,7 +48,8 @@ spot-sum (flag k) = refl
 
 remade : ℕ → ℕ → ℕ → ℕ → ℕ → Spot
 remade kind name start count number =
-    getD (nothing ∷ plain (operandAt name) ∷ behind (operandAt name) start count ∷ within (operandAt name) (plus number) ∷ within (operandAt name) (minus number) ∷ carry ∷ counter ∷ flag number ∷ []) kind nothing
+    getD (nothing ∷ plain (operandAt name) ∷ behind (operandAt name) start count ∷ within (operandAt name) (plus number)
+    ∷ within (operandAt name) (minus number) ∷ carry ∷ counter ∷ flag number ∷ []) kind nothing
 
 spotOf : Parts → Spot
 spotOf p = remade (p .kind) (p .name) (p .start) (p .count) (p .number)
