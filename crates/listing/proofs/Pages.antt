@@ -7,8 +7,8 @@ use native.Mathlib.Omega.{arith}
 use lib.ListN.{length, take, drop, length-append}
 use lib.Seq.{take-at, length-take-le}
 use borrow.Rule.Slice.PartMut.{putMid}
-use Rattle.line.specs.Left.{over}
-use Rattle.line.proofs.Over.{lent}
+use Rattle.laws.specs.Over.{over}
+use Rattle.laws.proofs.Over.{written-part}
 use Rattle.listing.specs.declared.page.Next.{Next}
 use Rattle.listing.specs.Listing.{listing}
 use Rattle.listing.specs.steps.Page.{toList, Paged, none, more}

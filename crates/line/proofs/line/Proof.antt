@@ -4,7 +4,7 @@ use mathlib.Core.Path.{ap, _∙_}
 use mathlib.Core.List.{_∷_, map}
 use borrow.Author.Needs.{needs}
 use Rattle.line.specs.steps.Packed.{pack, text, parts}
-use Rattle.line.proofs.Over.{said}
+use Rattle.line.proofs.Room.{said}
 use Rattle.line.proofs.Lined.{whole}
 use Rattle.line.proofs.line.Statement.{statement}
 use Rattle.line.proofs.line.Tie as tie
