@@ -8,7 +8,7 @@ use lib.ListN.{length, take, drop, length-append}
 use lib.Seq.{take-at, length-take-le}
 use borrow.Rule.Slice.PartMut.{putMid}
 use Rattle.line.specs.Left.{over}
-use Rattle.line.proofs.Over.{lent}
+use Rattle.line.proofs.Over.{part as lent}
 use Rattle.listing.specs.declared.page.Next.{Next}
 use Rattle.listing.specs.Listing.{listing}
 use Rattle.listing.specs.Page.{toList, Paged, none, more}

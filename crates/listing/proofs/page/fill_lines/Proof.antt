@@ -11,7 +11,7 @@ use Rattle.line.specs.Characters.{spelled}
 use Rattle.line.specs.Line.{lineOf, endText, refusedText}
 use Rattle.line.proofs.Lined.{line-short}
 use Rattle.laws.proofs.Rest.{rest}
-use Rattle.line.proofs.Over.{lent-length}
+use Rattle.line.proofs.Over.{part-length as lent-length}
 use Rattle.sweep.proofs.Turns.{inside}
 use Rattle.listing.specs.Listing.{ended, listed}
 use Rattle.listing.proofs.Turns.{at-end, refused, accepted}
