@@ -81,7 +81,8 @@ loop-again c =
       omega arith,
       omega arith,
       omega (arith, n .0, room p),
-      line-more (l .at) (l .out) (line p) (omega (arith, room p)) n _ (from-here (image p) (l .place) (p .before .before .step-at .ensures) (ap (onward stopping (l .place)) (c .before .here .given .1))) (l .inv .5),
+      line-more (l .at) (l .out) (line p) (omega (arith, room p)) n _
+          (from-here (image p) (l .place) (p .before .before .step-at .ensures) (ap (onward stopping (l .place)) (c .before .here .given .1))) (l .inv .5),
     )
 
 -- a walk stops at the steps that are not accepted
@@ -103,7 +104,8 @@ returns c =
     let l = turn p .loop in
     let n = p .put-line .ensures in
     record {
-      same = line-last (l .at) (l .out) (line p) (omega (arith, room p)) n (from-here (image p) (l .place) (p .before .before .step-at .ensures) (ends (l .place) (here p) (c .match .keys2))) (l .inv .5);
+      same = line-last (l .at) (l .out) (line p) (omega (arith, room p)) n
+          (from-here (image p) (l .place) (p .before .before .step-at .ensures) (ends (l .place) (here p) (c .match .keys2))) (l .inv .5);
       inside = omega (arith, n .0, room p);
       onward = λ h e. omega arith;
     }
