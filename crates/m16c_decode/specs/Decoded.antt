@@ -1,4 +1,4 @@
--- What m16c_decode returns and leaves in the list that it is lent.
+-- What m16c_decode returns and leaves in the list passed in.
 use Prim.Native.Nat.{ℕ}
 use mathlib.Core.Path.{_≡_}
 use mathlib.Core.Bool.{Bool, true, false}

@@ -1,4 +1,4 @@
--- The promise of m16c_sweep leaves one outcome: the number returned, count and place, and every entry of the list that was lent.
+-- The promise of m16c_sweep leaves one outcome: the number returned, count and place, and every entry of the list passed in.
 -- Assumes nothing.
 use Prim.Native.Nat.{ℕ}
 use mathlib.Core.Path.{_≡_, ap}
