@@ -1,5 +1,5 @@
 ghost use mathlib.Core.Path.{_≡_};
-ghost use Prim.Native.Nat.{_%_, _<_};
+ghost use Prim.Native.Nat.{_%_};
 ghost use Rattle.rows.specs.Codes.{nameJ, noPair, numJ};
 ghost use Rattle.rows.specs.Run.{reading};
 use crate::general;
@@ -37,7 +37,6 @@ pub fn long_name(code: u8) -> Operand
 
 // J(code): no register pair has code 2, 3 or 5.
 pub fn long_refused(code: u8) -> bool
-    requires { ⌜ code < 16 ⌝ }
     ensures { λ r. ⌜ r ≡ noPair code ⌝ }
 {
     set::has(0x2C, code)

@@ -10,7 +10,7 @@ use Rattle.readers.proofs.long.long_refused.Tie as tie
 
 returns : tie.Need-returns
 unfolding noPair
-returns c = c .has .ensures ∙ agree (holds 0x2C) noPair 16 refl (c .before .args .code) (c .before .pre)
+returns c = c .has .ensures ∙ agree (holds 0x2C) noPair 256 refl (c .before .args .code) (search needs)
 
 pub long-refused-spec : {M : Type 1} → statement M
 long-refused-spec = tie.close (tie.spec (λ c κs. search needs) returns)

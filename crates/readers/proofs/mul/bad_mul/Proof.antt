@@ -10,10 +10,10 @@ use Rattle.readers.proofs.mul.bad_mul.Statement.{statement}
 use Rattle.readers.proofs.mul.bad_mul.Tie as tie
 
 returns : tie.Need-returns
-returns c = let s = c .before .before in rw (c .before .if1 .taken) (c .has .ensures ∙ agree (holds 0x2A) (badMul B) 16 refl (s .args .n) (s .pre))
+returns c = let s = c .before .before in rw (c .before .if1 .taken) (c .has .ensures ∙ agree (holds 0x2A) (badMul B) 256 refl (s .args .n) (search needs))
 
 returns-2 : tie.Need-returns-2
-returns-2 c = let s = c .before .before in rw (c .before .if1 .left) (c .has2 .ensures ∙ agree (holds 0x2C) (badMul W) 16 refl (s .args .n) (s .pre))
+returns-2 c = let s = c .before .before in rw (c .before .if1 .left) (c .has2 .ensures ∙ agree (holds 0x2C) (badMul W) 256 refl (s .args .n) (search needs))
 
 pub bad-mul-spec : {M : Type 1} → statement M
 bad-mul-spec = tie.close (tie.spec (λ c κs. search needs) returns (λ c κs. search needs) returns-2)
