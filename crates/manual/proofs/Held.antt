@@ -1,10 +1,12 @@
 -- The definitions say of every code, and of every condition byte, what the witnesses' table says of it.
 -- Assumes nothing.
 use mathlib.Core.Path.{_≡_, refl, subst, sym, _∙_}
-use mathlib.Core.Bool.{Bool, true, false}
-use mathlib.Core.List.{List, []}
-use Prim.Native.Nat.{ℕ, _<_}
-use lib.Dec.{T, eqb, eqb→eq, lit<}
+use mathlib.Core.Bool.{Bool}
+use mathlib.Core.List.{List, [], _∷_, map}
+use Prim.Native.Nat.{ℕ, suc, _/_, _%_, _<_}
+use native.Mathlib.Omega.{arith}
+use borrow.Author.Tests.{ne-eqb}
+use lib.Dec.{T, eqb, eqb→eq}
 use lib.ListN.{length, getD}
 use Rattle.laws.specs.Choice.{both}
 use Rattle.laws.specs.Table.{every}
@@ -12,7 +14,7 @@ use Rattle.laws.proofs.Choice.{both-left, both-right}
 use Rattle.laws.proofs.Table.{at}
 use Rattle.manual.specs.Meaning.{Entry, empty}
 use Rattle.manual.specs.Bits.{Condition, conditionAt}
-use Rattle.manual.specs.Entries.{firsts, entryAt, count}
+use Rattle.manual.specs.Entries.{First, firsts, firstBytes, entriesIn, entryAt, count}
 use Rattle.manual.specs.Packed.{packed, packedCondition}
 use Rattle.manual.proofs.Listed.{listed, conditions}
 use Rattle.manual.proofs.Packing.{over, injective, injective-condition}
@@ -31,7 +33,7 @@ right-fits e x t = eqb→eq (over e) 0 (both-right (eqb (packed e) x) (eqb (over
 
 -- a first byte's place among the twelve, and its list
 rightList : ℕ → List ℕ → Bool
-rightList j xs = both (eqb (length xs) 256) (every (λ second. right (entryAt (getD firsts j 0) second)) 0 xs)
+rightList j xs = both (eqb (length xs) 256) (every (λ second. right (entryAt (getD firstBytes j 0) second)) 0 xs)
 
 all-right : T (every rightList 0 listed)
 unfolding listed rightList right packed over entryAt
@@ -41,47 +43,44 @@ all-right = tt
 module _ (j : ℕ) (xs : List ℕ) (t : T (rightList j xs)) where
   whole : length xs ≡ 256
   unfolding rightList
-  whole = eqb→eq (length xs) 256 (both-left (eqb (length xs) 256) (every (λ second. right (entryAt (getD firsts j 0) second)) 0 xs) t)
+  whole = eqb→eq (length xs) 256 (both-left (eqb (length xs) 256) (every (λ second. right (entryAt (getD firstBytes j 0) second)) 0 xs) t)
 
-  entry : (second : ℕ) → second < 256 → T (right (entryAt (getD firsts j 0) second) (getD xs second 0))
+  entry : (second : ℕ) → second < 256 → T (right (entryAt (getD firstBytes j 0) second) (getD xs second 0))
   unfolding rightList
   entry second h =
-      at (λ k. right (entryAt (getD firsts j 0) k)) 0 xs
-      (both-right (eqb (length xs) 256) (every (λ k. right (entryAt (getD firsts j 0) k)) 0 xs) t) second
+      at (λ k. right (entryAt (getD firstBytes j 0) k)) 0 xs
+      (both-right (eqb (length xs) 256) (every (λ k. right (entryAt (getD firstBytes j 0) k)) 0 xs) t) second
       (subst (λ (n : ℕ). second < n) (sym whole) h)
 
-twelve : length listed ≡ 12
+as-many : length listed ≡ length firstBytes
 unfolding listed
-twelve = refl
+as-many = refl
 
 -- the twelve first bytes, by their places, and the second bytes
-module _ (j second : ℕ) (hj : j < 12) (h : second < 256) where
-  passed : T (right (entryAt (getD firsts j 0) second) (getD (getD listed j []) second 0))
-  passed = entry j (getD listed j []) (at rightList [] listed all-right j (subst (λ (n : ℕ). j < n) (sym twelve) hj)) second h
+module _ (j second : ℕ) (hj : j < length firstBytes) (h : second < 256) where
+  passed : T (right (entryAt (getD firstBytes j 0) second) (getD (getD listed j []) second 0))
+  passed = entry j (getD listed j []) (at rightList [] listed all-right j (subst (λ (n : ℕ). j < n) (sym as-many) hj)) second h
 
   -- the code's entry has the listed number
-  pub held : packed (entryAt (getD firsts j 0) second) ≡ getD (getD listed j []) second 0
-  held = right-number (entryAt (getD firsts j 0) second) (getD (getD listed j []) second 0) passed
+  pub held : packed (entryAt (getD firstBytes j 0) second) ≡ getD (getD listed j []) second 0
+  held = right-number (entryAt (getD firstBytes j 0) second) (getD (getD listed j []) second 0) passed
 
   -- its numbers fit their digits
-  pub fits : over (entryAt (getD firsts j 0) second) ≡ 0
-  fits = right-fits (entryAt (getD firsts j 0) second) (getD (getD listed j []) second 0) passed
+  pub fits : over (entryAt (getD firstBytes j 0) second) ≡ 0
+  fits = right-fits (entryAt (getD firstBytes j 0) second) (getD (getD listed j []) second 0) passed
 
   -- so the listed number leaves only one entry
-  pub determined : (e : Entry) → over e ≡ 0 → packed e ≡ getD (getD listed j []) second 0 → e ≡ entryAt (getD firsts j 0) second
-  determined e f p = injective e (entryAt (getD firsts j 0) second) f fits (p ∙ sym held)
+  pub determined : (e : Entry) → over e ≡ 0 → packed e ≡ getD (getD listed j []) second 0 → e ≡ entryAt (getD firstBytes j 0) second
+  determined e f p = injective e (entryAt (getD firstBytes j 0) second) f fits (p ∙ sym held)
 
-fails : (b : Bool) → (T b → ⊥) → b ≡ false
-fails true f = absurd (f tt)
-fails false f = refl
+-- a first byte that is not listed has no meaning
+absent : (fs : List First) (a h n : ℕ) → ((j : ℕ) → j < length (map (λ f. f .byte) fs) → a ≡ getD (map (λ f. f .byte) fs) j 0 → ⊥) → entriesIn fs a h n ≡ empty
+absent [] a h n ne = refl
+absent (f ∷ fs) a h n ne = rw (ne-eqb a (f .byte) (ne 0 (omega arith))) (absent fs a h n (λ j l. ne (suc j) (omega (arith, l))))
 
--- a first byte that is none of the twelve has no meaning
-pub outside : (first second : ℕ) → ((j : ℕ) → j < 12 → first ≡ getD firsts j 0 → ⊥) → entryAt first second ≡ empty
+pub outside : (a b : ℕ) → ((j : ℕ) → j < length firstBytes → a ≡ getD firstBytes j 0 → ⊥) → entryAt a b ≡ empty
 unfolding entryAt
-outside first second h = simp (other 0 (lit< tt), other 1 (lit< tt), other 2 (lit< tt), other 3 (lit< tt), other 4 (lit< tt), other 5 (lit< tt), other 6 (lit< tt), other 7 (lit< tt), other 8 (lit< tt), other 9 (lit< tt), other 10 (lit< tt), other 11 (lit< tt))
-  where
-    other : (j : ℕ) → j < 12 → eqb first (getD firsts j 0) ≡ false
-    other j i = fails (eqb first (getD firsts j 0)) (λ t. h j i (eqb→eq first (getD firsts j 0) t))
+outside a b = absent firsts a (b / 16) (b % 16)
 
 rightCondition : ℕ → ℕ → Bool
 rightCondition c x = eqb (packedCondition (conditionAt c)) x

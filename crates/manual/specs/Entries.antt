@@ -1,9 +1,9 @@
 -- Which instruction a code selects: the first byte, then the second byte's high nibble h and low nibble n.
 -- A row of sixteen codes is a function of n. (Functions are chosen and applied after, so that only the chosen one is computed.)
 use Prim.Native.Nat.{ℕ, _+_, _-_, _*_, _/_, _%_}
-use mathlib.Core.List.{List, [], _∷_}
+use mathlib.Core.List.{List, [], _∷_, map}
 use lib.Dec.{ltb, eqb}
-use lib.ListN.{getD}
+use lib.ListN.{length, getD}
 use Rattle.laws.specs.Choice.{pick}
 use Rattle.laws.specs.Range.{total}
 use Rattle.record.specs.declared.Opcode.the-variants.{ABS, ADC, ADCF, ADD, AND, BAND, BCLR, BNAND, BNOR, BNOT, BNTST, BNXOR, BOR, BSET, BTST, BTSTC, BTSTS, BXOR, CMP, DADC, DADD, DIV, DIVU, DIVX, DSBB, DSUB, FCLR, FSET, JMPI, JSRI, LDCTX, MOVHH, MOVHL, MOVLH, MOVLL, MUL, MULU, NEG, NOT, OR, POPC, PUSHC, RMPA, ROLC, RORC, ROT, SBB, SHA, SHL, SMOVB, SMOVF, SSTR, STCTX, SUB, TST, XOR}
@@ -115,29 +115,39 @@ atEB =
     shiftLongImm SHL R2R0 ∷ shiftLongImm SHL R3R1 ∷ shiftLongImm SHA R2R0 ∷ shiftLongImm SHA R3R1 ∷
     intEB 0 ∷ intEB 1 ∷ intEB 2 ∷ intEB 3 ∷ [])
 
--- the rows of a first byte; all are blank for a first byte outside the twelve
-abbrev pub rowsOf : ℕ → ℕ → ℕ → Entry
-rowsOf first =
-    pick (eqb first 0x74) (at74 B)
-    (pick (eqb first 0x75) (at74 W)
-    (pick (eqb first 0x76) (at76 B)
-    (pick (eqb first 0x77) (at76 W)
-    (pick (eqb first 0x78) (mul B)
-    (pick (eqb first 0x79) (mul W)
-    (pick (eqb first 0x7A) at7A
-    (pick (eqb first 0x7B) at7B
-    (pick (eqb first 0x7C) at7C
-    (pick (eqb first 0x7D) at7D
-    (pick (eqb first 0x7E) at7E
-    (pick (eqb first 0xEB) atEB (λ h. blank))))))))))))
+-- a first byte and its rows
+pub record First : Type 0 where
+  pub byte : ℕ
+  pub entries : ℕ → ℕ → Entry
+
+abbrev first : ℕ → (ℕ → ℕ → Entry) → First
+first a es = record { byte = a; entries = es }
+
+-- the twelve first bytes
+abbrev pub firsts : List First
+firsts =
+    first 0x74 (at74 B) ∷ first 0x75 (at74 W)
+    ∷ first 0x76 (at76 B) ∷ first 0x77 (at76 W)
+    ∷ first 0x78 (mul B) ∷ first 0x79 (mul W)
+    ∷ first 0x7A at7A
+    ∷ first 0x7B at7B
+    ∷ first 0x7C at7C
+    ∷ first 0x7D at7D
+    ∷ first 0x7E at7E
+    ∷ first 0xEB atEB
+    ∷ []
+
+abbrev pub firstBytes : List ℕ
+firstBytes = map (λ f. f .byte) firsts
+
+-- all are blank for a first byte that is not listed
+abbrev pub entriesIn : List First → ℕ → ℕ → ℕ → Entry
+entriesIn [] a = λ h. blank
+entriesIn (f ∷ fs) a = pick (eqb a (f .byte)) (f .entries) (entriesIn fs a)
 
 -- what the manual says of a code
 unfoldable pub entryAt : ℕ → ℕ → Entry
-entryAt first second = rowsOf first (second / 16) (second % 16)
-
--- the twelve first bytes
-abbrev pub firsts : List ℕ
-firsts = 0x74 ∷ 0x75 ∷ 0x76 ∷ 0x77 ∷ 0x78 ∷ 0x79 ∷ 0x7A ∷ 0x7B ∷ 0x7C ∷ 0x7D ∷ 0x7E ∷ 0xEB ∷ []
+entryAt a b = entriesIn firsts a (b / 16) (b % 16)
 
 -- 1 for a code that has a meaning
 abbrev pub one : Entry → ℕ
@@ -147,4 +157,4 @@ one empty = 0
 -- how many codes have a meaning
 unfoldable pub count : ℕ
 unfolding total entryAt
-count = total (λ j. total (λ second. one (entryAt (getD firsts j 0) second)) 256) 12
+count = total (λ j. total (λ b. one (entryAt (getD firstBytes j 0) b)) 256) (length firstBytes)
