@@ -1,7 +1,8 @@
-# What the manual says of each code, packed as crates/manual/specs/Packed.antt says; 0 is an empty code.
+# The first bytes, a map each, and what the manual says of each code, packed as crates/manual/specs/Packed.antt says; 0 is an empty code.
 
 part == "manual" && /^listed[0-9A-F][0-9A-F] =/ {
     page = substr($1, 7)
+    first_byte[++MAPS] = page
     entries = 0
     next
 }
