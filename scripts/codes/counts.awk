@@ -19,7 +19,6 @@ function hold(what, found, wanted) {
 function check_counts(   map) {
     for (map = 1; map <= MAPS; map++)
         hold("codes of " first_byte[map], counted(map, "123456"), 256)
-    hold("codes", counted(ALL, "123456"), 3072)
     hold("accepted codes", counted(ALL, "1234"), proved("countCodes (ends 0)"))
     hold("marked codes", counted(ALL, "34"), proved("countCodes (λ a b. both (ends 0 a b) (markedAt a b))"))
     hold("codes refused with 2", ending[2], proved("countCodes (ends 2)"))

@@ -12,10 +12,10 @@ BEGIN {
     ACROSS = 4
     MAPS_TOP = 260
     WIDTH = 2 * MARGIN + ACROSS * (LABELS + GRID + NAMES + GAP) - GAP
-    HEIGHT = MAPS_TOP + 3 * (ABOVE + GRID + BELOW) - BELOW + MARGIN
 }
 
 function draw(   map) {
+    HEIGHT = MAPS_TOP + int((MAPS + ACROSS - 1) / ACROSS) * (ABOVE + GRID + BELOW) - BELOW + MARGIN
     open_picture()
     define_cells()
     draw_title()
@@ -29,7 +29,7 @@ function draw(   map) {
 function open_picture() {
     print "<svg xmlns=\"http://www.w3.org/2000/svg\" xmlns:xlink=\"http://www.w3.org/1999/xlink\""
     print "width=\"" WIDTH "\" height=\"" HEIGHT "\" viewBox=\"0 0 " WIDTH " " HEIGHT "\">"
-    print "<title>" TITLE "</title>"
+    print "<title>" title() "</title>"
     print "<style>"
     print "text { font: 12px 'Helvetica Neue', Helvetica, Arial, 'DejaVu Sans', sans-serif; fill: #222 }"
     print ".title { font-size: 22px; font-weight: bold }"

@@ -1,14 +1,17 @@
 # The title, and the legend: the cells of each class with their counts.
 
 BEGIN {
-    TITLE = "What the decoder does with each of the 3,072 codes"
     MEANT = 326 # the right ends of the legend's columns
     EMPTY = 446
     BOTH = 510
 }
 
+function title() {
+    return "What the decoder does with each of the " thousands(counted(ALL, "123456")) " codes"
+}
+
 function draw_title() {
-    write(MARGIN, MARGIN + 18, "title", TITLE)
+    write(MARGIN, MARGIN + 18, "title", title())
     write(MARGIN, MARGIN + 42, "", "A map for each first byte: the high digit of the second byte goes down, the low one across. " \
         "Right of a line stands the mnemonic of its accepted codes, or dots for several.")
     write(MARGIN, MARGIN + 60, "", "Colour and cross say what the decoder does. " \

@@ -1,9 +1,6 @@
 # The codes, in their order, and the course of the whole. A code is written as four digits: 740F.
 
-BEGIN {
-    DIGITS = "0123456789ABCDEF"
-    MAPS = split("74 75 76 77 78 79 7A 7B 7C 7D 7E EB", first_byte, " ")
-}
+BEGIN { DIGITS = "0123456789ABCDEF" }
 
 END {
     if (stopped) exit 2

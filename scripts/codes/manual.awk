@@ -1,7 +1,8 @@
-# What the manual says of each code, packed as crates/manual/specs/Packed.antt says; 0 is an empty code.
+# The first bytes, a map each, and what the manual says of each code, packed as crates/manual/specs/Packed.antt says; 0 is an empty code.
 
 part == "manual" && /^listed[0-9A-F][0-9A-F] =/ {
     page = substr($1, 7)
+    first_byte[++MAPS] = page
     entries = 0
     next
 }
@@ -32,10 +33,10 @@ function manual_text(code,   parts, text) {
     return text manual_suffix(code) spot_text(parts[4]) spot_text(parts[5]) ", " parts[6] " bytes"
 }
 
-# An operand's digits: its kind, its name (two), where its number starts, the number's bytes, a number in the code (two).
+# An operand's digits: its kind, its name (two), where its number starts, the number's bytes, a number in the code (three).
 function spot_text(spot,   sort, number) {
     sort = substr(spot, 1, 1)
-    number = substr(spot, 6, 2) + 0
+    number = substr(spot, 6, 3) + 0
     if (sort == 0) return ""
     if (sort <= 2) return " " name("Operand", substr(spot, 2, 2) + 0)
     if (sort == 3) return " #" number

@@ -31,7 +31,7 @@ right-fits : (e : Entry) (x : ℕ) → T (right e x) → over e ≡ 0
 unfolding right
 right-fits e x t = eqb→eq (over e) 0 (both-right (eqb (packed e) x) (eqb (over e) 0) t)
 
--- a first byte's place among the twelve, and its list
+-- a first byte's place, and its list
 rightList : ℕ → List ℕ → Bool
 rightList j xs = both (eqb (length xs) 256) (every (λ second. right (entryAt (getD firstBytes j 0) second)) 0 xs)
 
@@ -56,7 +56,7 @@ as-many : length listed ≡ length firstBytes
 unfolding listed
 as-many = refl
 
--- the twelve first bytes, by their places, and the second bytes
+-- the first bytes, by their places, and the second bytes
 module _ (j second : ℕ) (hj : j < length firstBytes) (h : second < 256) where
   passed : T (right (entryAt (getD firstBytes j 0) second) (getD (getD listed j []) second 0))
   passed = entry j (getD listed j []) (at rightList [] listed all-right j (subst (λ (n : ℕ). j < n) (sym as-many) hj)) second h
@@ -103,7 +103,7 @@ held-condition c h =
 pub determined-condition : (c : ℕ) → c < 256 → (d : Condition) → packedCondition d ≡ getD conditions c 0 → d ≡ conditionAt c
 determined-condition c h d p = injective-condition d (conditionAt c) (p ∙ sym (held-condition c h))
 
--- of the 3,072 codes
+-- how many codes have a meaning
 pub meanings : count ≡ 2556
 unfolding count
 meanings = refl

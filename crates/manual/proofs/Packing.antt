@@ -67,14 +67,14 @@ spot-back (flag k) = refl
 
 -- what of an operand's numbers has no room in their digits: 0 where all fit
 overParts : Parts → ℕ
-overParts p = p .kind / 10 + p .name / 100 + p .start / 10 + p .count / 10 + p .number / 100
+overParts p = p .kind / 10 + p .name / 100 + p .start / 10 + p .count / 10 + p .number / 1000
 
 record Fit (p : Parts) : Type 0 where
   name : p .name < 100
   start : p .start < 10
   count : p .count < 10
-  number : p .number < 100
-  whole : sum p < 10_000_000
+  number : p .number < 1000
+  whole : sum p < 100_000_000
 
 fit : (p : Parts) → overParts p ≡ 0 → Fit p
 unfolding overParts sum digits
@@ -90,7 +90,7 @@ last m {q} {r} {q′} {r′} h h′ e = (
 same-parts : (p q : Parts) → Fit p → Fit q → sum p ≡ sum q → spotOf p ≡ spotOf q
 unfolding sum digits spotOf
 same-parts p q f g e =
-    let number = last 100 (f .number) (g .number) e in
+    let number = last 1000 (f .number) (g .number) e in
     let count = last 10 (f .count) (g .count) (number .0) in
     let start = last 10 (f .start) (g .start) (count .0) in
     let name = last 100 (f .name) (g .name) (start .0) in
@@ -142,8 +142,8 @@ same-meaning : (m n : Meaning) → FitMeaning m → FitMeaning n → packed (mea
 unfolding packed made
 same-meaning m n f g e =
     let length = last 10 (f .length) (g .length) e in
-    let second = last 10_000_000 (rw spot-sum (f .op1 .whole)) (rw spot-sum (g .op1 .whole)) (length .0) in
-    let first = last 10_000_000 (rw spot-sum (f .op0 .whole)) (rw spot-sum (g .op0 .whole)) (second .0) in
+    let second = last 100_000_000 (rw spot-sum (f .op1 .whole)) (rw spot-sum (g .op1 .whole)) (length .0) in
+    let first = last 100_000_000 (rw spot-sum (f .op0 .whole)) (rw spot-sum (g .op0 .whole)) (second .0) in
     let suffix = last 10 (f .suffix) (g .suffix) (first .0) in
     same-made (opcodes-apart (m .mnemonic) (n .mnemonic) (omega (arith, suffix .0)))
     (sym (suffix-back (m .suffix)) ∙ ap suffixOf (suffix .1) ∙ suffix-back (n .suffix))

@@ -125,7 +125,7 @@ pub record First : Type 0 where
 abbrev first : ℕ → (ℕ → ℕ → Entry) → First
 first a es = record { byte = a; entries = es }
 
--- the twelve first bytes
+-- the first bytes
 abbrev pub firsts : List First
 firsts =
     first 0x74 (at74 B) ∷ first 0x75 (at74 W)

@@ -1,5 +1,5 @@
--- A meaning as a number, for comparisons: its decimal digits are 1 MM S KNNABDD KNNABDD L, and an empty code is 0.
--- MM is the mnemonic, S the suffix, L the length. Of an operand K is the kind, NN the name, A the byte where its number starts and B the number's bytes, DD a number that is part of the code.
+-- A meaning as a number, for comparisons: its decimal digits are 1 MM S KNNABDDD KNNABDDD L, and an empty code is 0.
+-- MM is the mnemonic, S the suffix, L the length. Of an operand K is the kind, NN the name, A the byte where its number starts and B the number's bytes, DDD a number that is part of the code.
 use Prim.Native.Nat.{ℕ, _+_, _*_}
 use Rattle.record.specs.Numbers.{opcodeNo, operandNo}
 use Rattle.manual.specs.Meaning.{Suffix, none, B, W, L, A, plus, minus, Spot, nothing, plain, behind, within, carry, counter, flag, Entry, meaning, empty}
@@ -14,7 +14,7 @@ suffixNo A = 4
 
 -- an operand's digits
 unfoldable pub digits : ℕ → ℕ → ℕ → ℕ → ℕ → ℕ
-digits kind name start count number = (((kind * 100 + name) * 10 + start) * 10 + count) * 100 + number
+digits kind name start count number = (((kind * 100 + name) * 10 + start) * 10 + count) * 1000 + number
 
 unfoldable pub spotNo : Spot → ℕ
 unfolding digits
@@ -29,7 +29,7 @@ spotNo (flag k) = digits 7 0 0 0 k
 
 unfoldable pub packed : Entry → ℕ
 unfolding suffixNo spotNo
-packed (meaning m) = ((((100 + opcodeNo (m .mnemonic)) * 10 + suffixNo (m .suffix)) * 10_000_000 + spotNo (m .op0)) * 10_000_000 + spotNo (m .op1)) * 10 + m .length
+packed (meaning m) = ((((100 + opcodeNo (m .mnemonic)) * 10 + suffixNo (m .suffix)) * 100_000_000 + spotNo (m .op0)) * 100_000_000 + spotNo (m .op1)) * 10 + m .length
 packed empty = 0
 
 -- a condition byte's instruction, 1 + its number, or 0

@@ -371,7 +371,7 @@ pub record Group : Type 0 where
 abbrev group : ℕ → (ℕ → ℕ → Row) → Group
 group a r = record { byte = a; rows = r }
 
--- the twelve first bytes (to unfold this is to unfold all rows; of the functions only that which is asked for is computed)
+-- the first bytes (to unfold this is to unfold all rows; of the functions only that which is asked for is computed)
 unfoldable pub groups : List Group
 unfolding noPair numJ row row74 row76 row78 row7A row7B rowE row7C row7CF row7D row7DC row7DD row7DF row7E rowEB rowEBlow
 groups =

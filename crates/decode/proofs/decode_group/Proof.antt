@@ -1,11 +1,13 @@
 -- `decode::decode_group` meets its contract.
 -- Assumes nothing.
-use mathlib.Core.Path.{_∙_}
+use mathlib.Core.Path.{refl, _∙_}
+use native.Mathlib.Omega.{arith}
 use mathlib.Core.Logic.{⊎-elim}
 use denote.Ref.{now}
 use borrow.Author.Needs.{needs}
-use Rattle.rows.specs.Rows.{known, rowsOf}
-use Rattle.decode.proofs.First.{in74, in76, in78, below, above}
+use borrow.Author.Tests.{lt-ltb, le-ltb}
+use Rattle.rows.specs.Rows.{known, rowsOf, row74, row76, row78}
+use Rattle.decode.proofs.First.{of-pair, known-rest}
 use Rattle.decode.proofs.decode_group.Statement.{statement}
 use Rattle.decode.proofs.decode_group.Tie as tie
 
@@ -34,21 +36,24 @@ unfolding known rowsOf
 returns-6 c = rw (c .before .match .keys6) (c .decode-opEB .ensures)
 
 returns-7 : tie.Need-returns-7
-returns-7 c = c .decode-op74 .ensures ∙ in74 (c .before .before .before .before .before .args .b) (now (c .before .before .before .before .before .args .bs))
-    (c .before .before .before .before .before .args .a) (c .before .before .if1 .left) (c .before .if2 .taken)
+unfolding known rowsOf
+returns-7 c = let s = c .before .before .before .before .before in
+    c .decode-op74 .ensures ∙ of-pair (s .args .b) (now (s .args .bs)) row74 0x74 ((tt, refl), refl) (s .args .a) (c .before .before .if1 .left) (c .before .if2 .taken)
 
 returns-8 : tie.Need-returns-8
-returns-8 c = c .decode-op76 .ensures ∙ in76 (c .before .before .before .before .before .before .args .b) (now (c .before .before .before .before .before .before .args .bs))
-    (c .before .before .before .before .before .before .args .a) (c .before .before .if2 .left) (c .before .if3 .taken)
+unfolding known rowsOf
+returns-8 c = let s = c .before .before .before .before .before .before in
+    c .decode-op76 .ensures ∙ of-pair (s .args .b) (now (s .args .bs)) row76 0x76 ((tt, refl), refl) (s .args .a) (c .before .before .if2 .left) (c .before .if3 .taken)
 
 returns-9 : tie.Need-returns-9
-returns-9 c = c .decode-op78 .ensures ∙ in78 (c .before .before .before .before .before .before .before .args .b) (now
-    (c .before .before .before .before .before .before .before .args .bs))
-    (c .before .before .before .before .before .before .before .args .a) (c .before .before .if3 .left) (c .before .if4 .taken)
+unfolding known rowsOf
+returns-9 c = let s = c .before .before .before .before .before .before .before in
+    c .decode-op78 .ensures ∙ of-pair (s .args .b) (now (s .args .bs)) row78 0x78 ((tt, refl), refl) (s .args .a) (c .before .before .if3 .left) (c .before .if4 .taken)
 
 returns-10 : tie.Need-returns-10
-returns-10 c = let r = c .before .before .match .rest in rw (⊎-elim (λ w. below _ (w .taken))
-    (λ w. above _ (w .3 .left) (r .0 .0 .0 .0 .0 .1) (r .0 .0 .0 .0 .1) (r .0 .0 .0 .1) (r .0 .0 .1) (r .0 .1) (r .1)) (c .before .if1 .came)) (c .refuse .ensures)
+returns-10 c = let s = c .before .before .before .before in
+    let e = known-rest (s .args .a) (omega (arith, s .fits .a)) (c .before .before .match .rest) in
+    rw (⊎-elim (λ w. rw (lt-ltb _ 0x74 (w .taken)) at e) (λ w. rw (le-ltb (s .args .a) 0x74 (omega (arith, w .3 .left)), le-ltb _ 0x7A (w .3 .left)) at e) (c .before .if1 .came)) (c .refuse .ensures)
 
 pub decode-group-spec : {M : Type 1} → statement M
 decode-group-spec = tie.close (tie.spec (λ c κs. search needs) (λ c κs. search needs) (λ c κs. search needs) (λ c κs. search needs) (λ c κs. search needs) (λ c κs. search needs)
