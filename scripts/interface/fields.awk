@@ -13,9 +13,10 @@ NR == FNR { name[names++] = $2; known[$2]; next }
 { gsub(/«|»/, ""); gsub(/;$/, "") }
 
 # A definition's lines go up to an empty one.
-/^fieldOf a =/ { on = 1 }
-/^$/ { on = 0 }
-on { field_text = field_text " " $0 }
+/^fieldOf a =/ { on = "fieldOf" }
+/^[a-z]+Names =/ { on = $1 }
+/^$/ { on = "" }
+on != "" { text[on] = text[on] " " $0 }
 
 $1 == "shared" && $5 == "=" && NF == 6 { clauses++; for (k = 2; k <= 6; k++) clause[clauses, k] = $k }
 $1 == "field0" && $2 == "a" && $3 == "b" { rule[0] = $0 }
@@ -24,7 +25,13 @@ $1 == "valueOf" && $4 == "=" { letter[$2] = $5 == "0" ? "-" : substr($6, 2, 1) }
 $1 ~ /^number[0-2]$/ && $2 == "=" { key[substr($1, 7)] = $0 }
 
 # The lists of `fieldOf`, each with the field for its names; what is left at the end is the field of all others.
-function read_field_lists(  list, count, k, part, field) {
+function read_field_lists(  list, count, k, part, field, field_text, called) {
+    field_text = text["fieldOf"]
+    for (called in text) {
+        list = text[called]
+        sub(/^.*=/, "", list)
+        sub("among " called " a", "among (" list ") a", field_text)
+    }
     while (match(field_text, /among \([^)]*\) a\) [a-z]+/)) {
         list = substr(field_text, RSTART, RLENGTH)
         field_text = substr(field_text, RSTART + RLENGTH)

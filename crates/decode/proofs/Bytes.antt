@@ -1,12 +1,12 @@
 -- The bytes from a place on, and decoding by the first two.
 -- Assumes nothing.
-use Prim.Native.Nat.{ℕ, zero, suc, _-_, _≤_}
-use mathlib.Core.Path.{_≡_, refl, sym, ap, _∙_}
+use Prim.Native.Nat.{ℕ, zero, suc, _≤_}
+use mathlib.Core.Path.{_≡_, refl}
 use mathlib.Core.List.{List, [], _∷_}
 use native.Mathlib.Nat.{le-of-suc-le-suc, not-suc-le-zero}
 use native.Mathlib.Omega.{arith}
-use lib.ListN.{length, getD, take, drop, length-drop}
-use lib.Seq.{drop-nil, take-length}
+use lib.ListN.{length, getD, drop}
+use lib.Seq.{drop-nil}
 use Rattle.laws.specs.Choice.{pick}
 use Rattle.rows.specs.Rows.{known, document01}
 use Rattle.rows.specs.Run.{decodeRows, decodeBy, refusal, runRow}
@@ -16,10 +16,6 @@ pub drop-past : (k : ℕ) (l : List ℕ) → length l ≤ k → drop k l ≡ []
 drop-past k [] h = drop-nil k
 drop-past zero (x ∷ xs) h = absurd (not-suc-le-zero h)
 drop-past (suc k) (x ∷ xs) h = drop-past k xs (le-of-suc-le-suc h)
-
--- a part from k to the end, as the code lends it, is what is left from k
-pub rest : (k : ℕ) (l : List ℕ) → take (length l - k) (drop k l) ≡ drop k l
-rest k l = ap (λ n. take n (drop k l)) (sym (length-drop k l)) ∙ take-length (drop k l)
 
 pub none : (bs : List ℕ) → length bs ≡ 0 → refusal 1 0 ≡ decodeRows bs
 unfolding decodeBy

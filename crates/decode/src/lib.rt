@@ -1,3 +1,4 @@
+// Decoding at a place of an image: the first byte chooses the group.
 ghost use mathlib.Core.Path.{_≡_};
 ghost use lib.ListN.{drop};
 ghost use Rattle.laws.specs.Choice.{pick};

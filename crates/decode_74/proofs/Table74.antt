@@ -1,7 +1,7 @@
 -- 74 and 75: the code's tables are document 01's rows.
 -- Assumes nothing.
 use Prim.Native.Nat.{ℕ, zero, suc, _<_}
-use mathlib.Core.Path.{_≡_, _∙_, refl, sym}
+use mathlib.Core.Path.{_≡_, refl}
 use mathlib.Core.List.{List, [], _∷_}
 use Rattle.laws.proofs.Agree.{agree}
 use Rattle.record.specs.declared.Answer.{Answer}

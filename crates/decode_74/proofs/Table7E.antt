@@ -13,7 +13,8 @@ use Rattle.record.specs.declared.Answer.{Answer}
 use Rattle.record.specs.declared.Operand.{Operand}
 use Rattle.record.specs.declared.Seen.{Seen}
 use Rattle.record.specs.declared.Opcode.{Opcode}
-use Rattle.record.specs.declared.Opcode.the-variants.{NOP, BTSTC, BTSTS, BNTST, BAND, BNAND, BOR, BNOR, BCLR, BSET, BNOT, BTST, BXOR, BNXOR, BMGEU, BMGTU, BMEQ, BMN, BMLE, BMO, BMGE, BMLTU, BMLEU, BMNE, BMPZ, BMGT, BMNO, BMLT}
+use Rattle.record.specs.declared.Opcode.the-variants.{NOP, BTSTC, BTSTS, BNTST, BAND, BNAND, BOR, BNOR, BCLR, BSET, BNOT, BTST, BXOR, BNXOR}
+use Rattle.record.specs.declared.Opcode.the-variants.{BMGEU, BMGTU, BMEQ, BMN, BMLE, BMO, BMGE, BMLTU, BMLEU, BMNE, BMPZ, BMGT, BMNO, BMLT}
 use Rattle.rows.specs.Row.{InvalidOpcode, cond, named, unnamed, Row}
 use Rattle.rows.specs.Codes.{condOf}
 use Rattle.rows.specs.Rows.{row, refused, bits, row7E}

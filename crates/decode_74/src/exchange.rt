@@ -1,22 +1,17 @@
 ghost use mathlib.Core.Path.{_≡_};
-ghost use Prim.Native.Nat.{_/_, _%_, _<_};
-ghost use Rattle.decode_74.specs.steps.Op7A.{lower};
+ghost use Prim.Native.Nat.{_/_, _%_};
+ghost use Rattle.rows.specs.Rows.{xchg};
 ghost use Rattle.rows.specs.Run.{runRow};
 ghost use Rattle.readers.specs.steps.Width.{widthOf};
 use readers::answer;
 use readers::general;
 use record::Answer;
 use record::Opcode;
-use record::refusal;
 
-// XCHG: the register by the second byte's high nibble, of which there are four; G by its low one.
+// XCHG: the register by the second byte's high nibble, G by its low one.
 pub fn exchange(bs: &[u8], byte: bool, b: u8) -> Answer
-    requires { ⌜ b < 128 ⌝ }
-    ensures { λ r. ⌜ r ≡ runRow (lower (widthOf byte) (b / 16) (b % 16)) (now (bs .entry)) ⌝ }
+    ensures { λ r. ⌜ r ≡ runRow (xchg (widthOf byte) (b / 16) (b % 16)) (now (bs .entry)) ⌝ }
 {
-    if 0x40 <= b {
-        return answer::refuse(refusal::INVALID_OPERAND, 2);
-    }
     let source = general::general_name(byte, b / 16);
     let dest = general::general_name(byte, b);
     let got = general::general(bs, answer::BEGIN, b % 16);

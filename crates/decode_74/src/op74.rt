@@ -7,6 +7,7 @@ ghost use Rattle.decode_74.specs.steps.Op74.{size74, other74, rest74, st
 use readers::answer;
 use readers::general;
 use readers::numbers;
+use readers::set;
 use record::Answer;
 use record::Got;
 use record::Opcode;
@@ -78,11 +79,12 @@ fn other_74(byte: bool, h: u8) -> Operand
     OTHERS[h as usize]
 }
 
-// ROT, SHL and SHA: R1 at W and R1H at B can't be shifted.
+// ROT, SHL and SHA, 6, E and F: R1 at W and R1H at B can't be shifted.
 fn stop_74(byte: bool, h: u8, n: u8) -> bool
+    requires { ⌜ h < 16 ⌝ }
     ensures { λ r. ⌜ r ≡ stop74 (widthOf byte) h n ⌝ }
 {
-    if (h == 6) | (h == 14) | (h == 15) {
+    if set::has(0xC040, h) {
         if byte {
             return n == 3;
         }
@@ -124,12 +126,14 @@ pub fn decode_op74(bs: &[u8], byte: bool, b: u8) -> Answer
     let w = answer::width_of(byte);
     match general::general(bs, answer::BEGIN, n) {
         Got::Short => answer::refuse(refusal::EXHAUSTED_INPUT, bs.len()),
-        Got::On(s) => {
-            let got = rest_74(bs, byte, h, s);
-            if first {
-                return answer::finish(bs, got, o, z, w, name, other, h == 3);
+        Got::On(s) => match rest_74(bs, byte, h, s) {
+            Got::Short => answer::refuse(refusal::EXHAUSTED_INPUT, bs.len()),
+            Got::On(t) => {
+                if first {
+                    return answer::accept(o, z, w, name, other, h == 3, t);
+                }
+                answer::accept(o, z, w, other, name, h == 3, t)
             }
-            answer::finish(bs, got, o, z, w, other, name, h == 3)
-        }
+        },
     }
 }

@@ -7,6 +7,7 @@ ghost use Rattle.decode_74.specs.steps.Op76.{unary76, immediate76, both7
 use readers::answer;
 use readers::general;
 use readers::numbers;
+use readers::set;
 use record::Answer;
 use record::Got;
 use record::Opcode;
@@ -92,10 +93,12 @@ pub fn decode_op76(bs: &[u8], byte: bool, b: u8) -> Answer
     ensures { λ r. ⌜ r ≡ runRow (row76 (widthOf byte) (b / 16) (b % 16)) (now (bs .entry)) ⌝ }
 {
     let h = b / 16;
-    if (h == 9) | (h == 12) {
+    // DIVX and DIVU
+    if set::has(0x1200, h) {
         return immediate_76(bs, byte, b);
     }
-    if (h == 10) | (h == 11) | (h == 13) | (h == 15) {
+    // ROLC, RORC, DIV and ABS
+    if set::has(0xAC00, h) {
         return unary_76(bs, byte, b);
     }
     both_76(bs, byte, b)

@@ -37,5 +37,8 @@ pub fn decode_op7A(bs: &[u8], b: u8) -> Answer
     if 0x80 <= b {
         return load_control(bs, b);
     }
+    if 0x40 <= b {
+        return answer::refuse(refusal::INVALID_OPERAND, 2);
+    }
     exchange::exchange(bs, true, b)
 }

@@ -41,5 +41,8 @@ pub fn decode_op7B(bs: &[u8], b: u8) -> Answer
     if 0x80 <= b {
         return store_control(bs, b);
     }
+    if 0x40 <= b {
+        return answer::refuse(refusal::INVALID_OPERAND, 2);
+    }
     exchange::exchange(bs, false, b)
 }

@@ -8,6 +8,7 @@ use readers::answer;
 use readers::general;
 use readers::long;
 use readers::numbers;
+use readers::set;
 use record::Answer;
 use record::Opcode;
 use record::Operand;
@@ -25,7 +26,8 @@ fn nibble_mark(h: u8, n: u8) -> bool
     requires { ⌜ n < 16 ⌝ }
     ensures { λ r. ⌜ r ≡ nibbleMark h n ⌝ }
 {
-    MIXED[(h % 4) as usize] & !((n == 0) | (n == 4) | (n == 5))
+    let meant = set::has(0xFFCE, n);
+    MIXED[(h % 4) as usize] & meant
 }
 
 // MOVLL and the like: from G(n) to R0L below h = 8, else from R0L to G(n).
@@ -48,7 +50,8 @@ fn extend_byte(bs: &[u8], b: u8) -> Answer
     ensures { λ r. ⌜ r ≡ runRow (exts (b % 16)) (now (bs .entry)) ⌝ }
 {
     let n = b % 16;
-    if (n == 1) | (n == 3) | (n == 4) | (n == 5) {
+    // 1, 3, 4 and 5
+    if set::has(0x3A, n) {
         return answer::refuse(refusal::INVALID_OPERAND, 2);
     }
     let name = general::general_name(true, b);

@@ -12,6 +12,7 @@ use readers::answer;
 use readers::general;
 use readers::long;
 use readers::numbers;
+use readers::set;
 use record::Answer;
 use record::Opcode;
 use record::Operand;
@@ -133,9 +134,10 @@ const JUMPS: [Opcode; 8] = [
 
 // B and F name no condition.
 fn no_condition(n: u8) -> bool
+    requires { ⌜ n < 16 ⌝ }
     ensures { λ r. ⌜ r ≡ noCondition n ⌝ }
 {
-    (n == 11) | (n == 15)
+    set::has(0x8800, n)
 }
 
 // Jumps on a condition: one byte.
@@ -191,7 +193,7 @@ fn conditional(b: u8) -> Answer
         return answer::refuse(refusal::INVALID_OPCODE, 2);
     }
     let o = CONDITIONS[n as usize];
-    let m = (n == 10) | (n == 13) | (n == 14);
+    let m = set::has(0x6400, n);
     answer::accept(
         o,
         Size::None,

@@ -8,6 +8,7 @@ ghost use Rattle.decode_7c.specs.steps.Shared.{mulBy, sizeE, fromE, toE}
 use readers::answer;
 use readers::mul;
 use readers::numbers;
+use readers::set;
 use record::Answer;
 use record::Got;
 use record::Opcode;
@@ -102,7 +103,7 @@ pub fn row_E(bs: &[u8], byte: bool, b: u8) -> Answer
     let w = answer::width_of(byte);
     let to = to_E(byte, decimal, n);
     // an immediate is operand 0
-    if (n < 4) | (11 <= n) {
+    if set::has(0xF80F, n) {
         let name = numbers::immediate_name(byte);
         let got = numbers::immediate(bs, byte, answer::BEGIN);
         return answer::finish(bs, got, o, z, w, name, to, false);

@@ -1,4 +1,4 @@
--- The row at the chosen code has the names that were asked for: whether it can say the record, and by which bytes.
+-- The row at the chosen code has the names that were asked for: whether it encodes the record, and by which bytes.
 -- Assumes nothing.
 use Prim.Native.Nat.{ℕ, _<_}
 use mathlib.Core.Path.{_≡_, refl, sym, ap, ap₂, subst, _∙_}
@@ -94,7 +94,7 @@ module _ (r : Record) (third : sameName (r .op2) Nothing ≡ true) (a b : ℕ) (
   e : known a ≡ true
   e = both-true (ltb b 256) (known a) (both-true (ltb a 256) _ (the-row .there) .1) .1
 
-  -- its names agree with the key's, so its numbers tell whether it can say the key
+  -- its names agree with the key's, so its numbers tell whether it encodes the key
   agree : can (document01 .rowAt a b) k ≡ sayable a b e second-below (the-row .lives) k
   unfolding can fieldOf among sameName
   agree =

@@ -16,9 +16,9 @@ ghost use Rattle.encode_rules.specs.Written.{outcome, Encodes};
 ghost use Rattle.encode.specs.steps.Faced as faced;
 ghost use Rattle.encode.specs.steps.Plan.{foundBy};
 use encode_choice::asks;
-use encode_choice::names;
 use record::Operand;
 use record::Record;
+use record::fields;
 use record::refusal;
 
 // A code, and the numbers that stand behind it, each in so many bytes.
@@ -71,7 +71,7 @@ pub fn encode(r: Record, buf: &mut [u8], place: usize) -> Encoded
     ensures { λ e. ⌜ Encodes r (now (buf .entry)) place (outcome (e .refusal) (e .length) (now (buf .exit))) ⌝ }
 {
     let op2 = r.op2;
-    if names::same(op2, Operand::Nothing) {
+    if fields::same_name(op2, Operand::Nothing) {
         let p = find(r);
         if p.first != 0 {
             return write::write_at(buf, place, p);

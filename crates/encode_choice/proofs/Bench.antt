@@ -15,6 +15,7 @@ use Rattle.encode_rules.specs.Bench.{lines, Hold}
 use Rattle.encode_choice.proofs.Encoded.{right-bytes}
 
 pub bench : Hold lines
-unfolding decodeBy runRow run readDisp readImm condOf known rowsOf taken able can fits bytesBy spell aim chooseNamed dropsZero goesWith formOf among sameName chooseBy place condByte disps imms conds fieldOf baseOf whole
+unfolding decodeBy runRow run readDisp readImm condOf known rowsOf taken able can fits bytesBy spell aim
+    chooseNamed dropsZero goesWith formOf among sameName chooseBy place condByte disps imms conds fieldOf baseOf whole
 bench =
     (refl, (refl, (refl, (refl, (refl, (refl, (refl, (refl, (refl, (refl, (refl, (refl, (refl, (refl, (right-bytes _ _ refl, (right-bytes _ _ refl, tt))))))))))))))))

@@ -6,7 +6,6 @@ pub mod Encoded
 pub mod Bench
 pub mod Whole
 pub mod Lookups
-pub mod Placed
 pub mod OrImm
 pub mod SetBits
 pub mod Unchosen

@@ -7,11 +7,11 @@ ghost use Rattle.encode_choice.specs.steps.NameSet.{allIn};
 use crate::Asked;
 use crate::name_sets;
 use crate::name_sets::Sets;
-use crate::names;
 use crate::sets;
 use record::Opcode;
 use record::Operand;
 use record::Width;
+use record::fields;
 
 fn all_in(s: Sets, q: Asked) -> bool
     ensures { λ r. ⌜ r ≡ allIn (s .0) (s .1) q ⌝ }
@@ -32,7 +32,7 @@ fn number_goes(q: Asked) -> bool
     ensures { λ r. ⌜ r ≡ ltb (q .number) (numberLimit (q .op0)) ⌝ }
 {
     let op0 = q.op0;
-    if names::same(op0, Operand::Imm4) {
+    if fields::same_name(op0, Operand::Imm4) {
         return q.number < 16;
     }
     q.number < 64

@@ -1,17 +1,12 @@
 // What a name is.
 ghost use mathlib.Core.Path.{_≡_};
-ghost use Rattle.record.specs.Same.{sameName, fieldOf};
+ghost use Rattle.record.specs.Same.{fieldOf};
 ghost use Rattle.encode_choice.specs.steps.Coarse.{whole};
 ghost use Rattle.encode_choice.specs.steps.Coded.{isWide};
 use record::Operand;
 use record::Width;
+use record::fields;
 use record::numbers;
-
-pub fn same(a: Operand, b: Operand) -> bool
-    ensures { λ r. ⌜ r ≡ sameName a b ⌝ }
-{
-    numbers::operand_number(a) == numbers::operand_number(b)
-}
 
 // Its number is in imm_wide.
 pub fn is_wide(o: Operand) -> bool
@@ -29,10 +24,10 @@ pub fn is_whole(w: Width, o: Operand) -> bool
     ensures { λ r. ⌜ r ≡ whole w o ⌝ }
 {
     if numbers::width_number(w) == 0 {
-        if same(o, Operand::Imm4) {
+        if fields::same_name(o, Operand::Imm4) {
             return true;
         }
-        return same(o, Operand::Imm8);
+        return fields::same_name(o, Operand::Imm8);
     }
     false
 }

@@ -10,6 +10,7 @@ use crate::names;
 use record::Operand;
 use record::Size;
 use record::Width;
+use record::fields;
 
 // Which of a pair of first bytes: the second one is for words.
 fn word(w: Width) -> u8
@@ -135,13 +136,13 @@ pub(crate) fn half(h: u64, q: Asked) -> Code
 {
     let op0 = q.op0;
     let op1 = q.op1;
-    if names::same(op1, Operand::R0L) {
+    if fields::same_name(op1, Operand::R0L) {
         return Code {
             first: 0x7C,
             second: 16 * h + name_sets::code_of(op0),
         };
     }
-    if names::same(op0, Operand::R0L) {
+    if fields::same_name(op0, Operand::R0L) {
         return Code {
             first: 0x7C,
             second: 16 * (8 + h) + name_sets::code_of(op1),
@@ -157,10 +158,10 @@ pub(crate) fn half(h: u64, q: Asked) -> Code
 pub(crate) fn far(o: Operand) -> u64
     ensures { λ r. ⌜ (r ≡ choice.far o) × (r ≤ 2) ⌝ }
 {
-    if names::same(o, Operand::Abs20) {
+    if fields::same_name(o, Operand::Abs20) {
         return 0;
     }
-    if names::same(o, Operand::Disp20_A0) {
+    if fields::same_name(o, Operand::Disp20_A0) {
         return 1;
     }
     2
@@ -172,7 +173,7 @@ fn long(s: u64, q: Asked) -> Code
 {
     let op0 = q.op0;
     let op1 = q.op1;
-    if names::same(op0, Operand::Imm4) {
+    if fields::same_name(op0, Operand::Imm4) {
         return Code {
             first: 0xEB,
             second: 16 * (8 + s + name_sets::code_of(op1)) + (q.number as u64),

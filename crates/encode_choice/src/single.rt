@@ -9,9 +9,9 @@ ghost use Rattle.encode_choice.specs.steps.Coded.{coded};
 use crate::Asked;
 use crate::Code;
 use crate::name_sets;
-use crate::names;
 use crate::shapes;
 use record::Operand;
+use record::fields;
 
 pub(crate) fn fixed(a: u8, b: u64) -> Code
     ensures { λ r. ⌜ r ≡ coded (code a b) ⌝ }
@@ -26,7 +26,7 @@ pub(crate) fn add(q: Asked) -> Code
     ensures { λ r. ⌜ r ≡ coded (chooseBy ADD q) ⌝ }
 {
     let op1 = q.op1;
-    if names::same(op1, Operand::SP) {
+    if fields::same_name(op1, Operand::SP) {
         shapes::only(0x7C, 0xEB, q)
     } else {
         shapes::binary(0x76, 4, q)
@@ -37,7 +37,7 @@ pub(crate) fn exts(q: Asked) -> Code
     ensures { λ r. ⌜ r ≡ coded (chooseBy EXTS q) ⌝ }
 {
     let op0 = q.op0;
-    if names::same(op0, Operand::R0) {
+    if fields::same_name(op0, Operand::R0) {
         return fixed(0x7C, 0xF3);
     }
     fixed(0x7C, 0x60 + name_sets::code_of(op0))
@@ -103,7 +103,7 @@ pub(crate) fn mov(q: Asked) -> Code
     ensures { λ r. ⌜ r ≡ coded (chooseBy MOV q) ⌝ }
 {
     let op0 = q.op0;
-    if names::same(op0, Operand::Disp8_SP) {
+    if fields::same_name(op0, Operand::Disp8_SP) {
         shapes::binary(0x74, 0xB, q)
     } else {
         shapes::binary(0x74, 0xC, q)

@@ -124,16 +124,22 @@ least (num (imm n) ∷ rs) xs f s t c (v, rest, e, h, q) =
     let k = least rs rest f _ t (b .1) q in
     let g = kept rs rest f _ t q in
     let u : t .«imm_wide» ≡ v = g .number (eqb-true _ _ (b .0)) ∙ mod-eq-of-lt h in
-    record { more = k .more; below = one n _ v xs rest (spell rs t) (k .more) e u (k .below); 
-      again = (t .«imm_wide», spell rs t, refl, rw u h, subst (λ m. Runs rs (spell rs t) f (withImm n (m % 256 ^ n) s) t) (sym u) (k .again)) }
+    record {
+      more = k .more;
+      below = one n _ v xs rest (spell rs t) (k .more) e u (k .below);
+      again = (t .«imm_wide», spell rs t, refl, rw u h, subst (λ m. Runs rs (spell rs t) f (withImm n (m % 256 ^ n) s) t) (sym u) (k .again));
+    }
 least (num imm20 ∷ rs) xs f s t c (v, rest, e, h, q) =
     let b = both-true _ _ c in
     let k = least rs rest f _ t (b .1) q in
     let g = kept rs rest f _ t q in
     let u : t .«imm_wide» ≡ v % twentyBits = g .number (eqb-true _ _ (b .0)) in
     let w : t .«imm_wide» % twentyBits ≡ v % twentyBits = omega arith in
-    record { more = k .more; below = masked _ v xs rest (spell rs t) (k .more) e u (k .below); 
-      again = (t .«imm_wide», spell rs t, refl, omega arith, subst (λ m. Runs rs (spell rs t) f (withImm 3 m s) t) (sym w) (k .again)) }
+    record {
+      more = k .more;
+      below = masked _ v xs rest (spell rs t) (k .more) e u (k .below);
+      again = (t .«imm_wide», spell rs t, refl, omega arith, subst (λ m. Runs rs (spell rs t) f (withImm 3 m s) t) (sym w) (k .again));
+    }
 least (cond ∷ rs) xs f s t c (v, rest, e, h, (o, g, q)) =
     let b = both-true _ _ c in
     let k = least rs rest (renamed o f) (past s) t (b .1) q in

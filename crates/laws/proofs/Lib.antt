@@ -1,5 +1,4 @@
 pub mod Agree
-pub mod Any
 pub mod Choice
 pub mod Range
 pub mod Rest

@@ -72,3 +72,14 @@ put-last at l xs x {n} e h =
 -- the buffer once bytes were written over what was passed in of it
 pub written-part : (at : ℕ) (l xs : List ℕ) → at ≤ length l → {ys : List ℕ} → ys ≡ over xs (take (length l - at) (drop at l)) → putMid at (length l - at) l ys ≡ put at xs l
 written-part at l xs h {ys} e = given-back at l h ys ∙ ap (λ z. take at l ++ z) (e ∙ ap (over xs) (rest at l))
+
+module _ (at : ℕ) (l xs : List ℕ) (h : at + length xs ≤ length l) {ys : List ℕ} (e : ys ≡ over xs (take (length l - at) (drop at l))) where
+  part : putMid at (length l - at) l ys ≡ put at xs l
+  part = written-part at l xs (omega arith) e
+
+  pub written-length : length (putMid at (length l - at) l ys) ≡ length l
+  written-length = ap length part ∙ put-length at l xs h
+
+  -- and what is still to be put behind it
+  pub written-on : (zs : List ℕ) {n : ℕ} → n ≡ length xs → put at (xs ++ zs) l ≡ put (at + n) zs (putMid at (length l - at) l ys)
+  written-on zs {n} g = put-more at l xs h zs (ap (λ k. at + k) g) ∙ ap (put (at + n) zs) (sym part)

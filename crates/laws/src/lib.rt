@@ -1,1 +1,1 @@
-// Definitions and laws only: tests that the checker computes, in specs/ and proofs/.
+// Definitions and laws only, in specs/ and proofs/: tests that the checker computes, lists, parts of buffers.

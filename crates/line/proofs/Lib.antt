@@ -2,6 +2,6 @@ pub mod Digits
 pub mod Packing
 pub mod Unpacked
 pub mod Spelling
-pub mod Over
+pub mod Room
 pub mod Lined
 pub mod Outcomes

@@ -1,4 +1,4 @@
--- The promise of every line leaves one outcome: what is returned, and every byte of the buffer that was lent.
+-- The promise of every line leaves one outcome: what is returned, and every byte of the buffer that was passed in.
 -- Assumes nothing.
 use Prim.Native.Nat.{ℕ}
 use mathlib.Core.Path.{_≡_, sym, _∙_}

@@ -1,22 +1,19 @@
 -- What a writer of text returns and leaves.
 use Prim.Native.Nat.{ℕ}
 use mathlib.Core.Path.{_≡_}
-use mathlib.Core.List.{List, _++_}
-use lib.ListN.{length, drop}
+use mathlib.Core.List.{List}
+use lib.ListN.{length}
 use lib.Dec.{leb}
 use Rattle.laws.specs.Choice.{pick}
+use Rattle.laws.specs.Over.{over}
 use Rattle.line.specs.declared.Written.{Written}
 
-pub record Left : Type 0 where
+pub record Delivered : Type 0 where
   pub written : Written
   pub buffer : List ℕ
 
--- a text over the first bytes of a buffer, the others as they were
-abbrev pub over : List ℕ → List ℕ → List ℕ
-over xs bs = xs ++ drop (length xs) bs
-
--- the text's length and the text; or 6 with too little room, and every byte as it was
-unfoldable pub left : List ℕ → List ℕ → Left
+-- the text over the first bytes, the others as they were, and its length; or 6 with too little room, and every byte as it was
+unfoldable pub left : List ℕ → List ℕ → Delivered
 left xs bs =
     pick (leb (length xs) (length bs))
     (record { written = record { refusal = 0; length = length xs }; buffer = over xs bs })

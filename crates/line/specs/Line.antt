@@ -9,7 +9,9 @@ use Rattle.record.specs.declared.Size.the-variants as size
 use Rattle.record.specs.declared.Width.{Width}
 use Rattle.record.specs.declared.Width.the-variants as width
 use Rattle.record.specs.declared.Operand.{Operand}
-use Rattle.record.specs.declared.Operand.the-variants.{Nothing, Imm4, Imm8, Imm16, RegList, Abs16, Abs20, Disp8, «Disp8_A0», «Disp8_A1», «Disp8_SB», «Disp8_FB», «Disp8_SP», «Disp16_A0», «Disp16_A1», «Disp16_SB», «Disp20_A0», «Disp20_A1», «Bit_R0», «Bit_R1», «Bit_R2», «Bit_R3», «Bit_A0», «Bit_A1», «Bit_Disp8_A0», «Bit_Disp8_A1», «Bit_Disp8_SB», «Bit_Disp8_FB», «Bit_Disp16_A0», «Bit_Disp16_A1», «Bit_Disp16_SB», «Bit_Abs16»}
+use Rattle.record.specs.declared.Operand.the-variants.{Nothing, Imm4, Imm8, Imm16, RegList, Abs16, Abs20, Disp8, «Disp8_A0», «Disp8_A1», «Disp8_SB», «Disp8_FB», «Disp8_SP», «Disp16_A0»}
+use Rattle.record.specs.declared.Operand.the-variants.{«Disp16_A1», «Disp16_SB», «Disp20_A0», «Disp20_A1», «Bit_R0», «Bit_R1», «Bit_R2», «Bit_R3», «Bit_A0», «Bit_A1», «Bit_Disp8_A0»}
+use Rattle.record.specs.declared.Operand.the-variants.{«Bit_Disp8_A1», «Bit_Disp8_SB», «Bit_Disp8_FB», «Bit_Disp16_A0», «Bit_Disp16_A1», «Bit_Disp16_SB», «Bit_Abs16»}
 use Rattle.record.specs.Same.{sameName, among, key}
 use Rattle.line.specs.Characters.{spelled, hex}
 use Rattle.line.specs.Names.{opcodeName, operandName}
@@ -33,7 +35,9 @@ sizeText size.L = spelled ".L"
 
 -- the names whose number is a byte, two bytes, or 20 bits
 abbrev pub byteNames : List Operand
-byteNames = Imm8 ∷ Disp8 ∷ RegList ∷ «Disp8_A0» ∷ «Disp8_A1» ∷ «Disp8_SB» ∷ «Disp8_FB» ∷ «Disp8_SP» ∷ «Bit_R0» ∷ «Bit_R1» ∷ «Bit_R2» ∷ «Bit_R3» ∷ «Bit_A0» ∷ «Bit_A1» ∷ «Bit_Disp8_A0» ∷ «Bit_Disp8_A1» ∷ «Bit_Disp8_SB» ∷ «Bit_Disp8_FB» ∷ []
+byteNames =
+    Imm8 ∷ Disp8 ∷ RegList ∷ «Disp8_A0» ∷ «Disp8_A1» ∷ «Disp8_SB» ∷ «Disp8_FB» ∷ «Disp8_SP»
+    ∷ «Bit_R0» ∷ «Bit_R1» ∷ «Bit_R2» ∷ «Bit_R3» ∷ «Bit_A0» ∷ «Bit_A1» ∷ «Bit_Disp8_A0» ∷ «Bit_Disp8_A1» ∷ «Bit_Disp8_SB» ∷ «Bit_Disp8_FB» ∷ []
 
 abbrev pub wordNames : List Operand
 wordNames = Imm16 ∷ Abs16 ∷ «Disp16_A0» ∷ «Disp16_A1» ∷ «Disp16_SB» ∷ «Bit_Abs16» ∷ «Bit_Disp16_A0» ∷ «Bit_Disp16_A1» ∷ «Bit_Disp16_SB» ∷ []

@@ -1,4 +1,5 @@
 -- The names that the listing prints, spelled, each at its number. Nothing prints none.
+-- Made by scripts/tables/make-names from the enums of crates/record/src/lib.rt.
 use Prim.Native.Nat.{ℕ}
 use Prim.Native.String.{String}
 use mathlib.Core.List.{List, [], _∷_}
@@ -16,8 +17,8 @@ operandNames = "" ∷ "Imm4" ∷ "Imm8" ∷ "Imm16" ∷ "R0L" ∷ "R0H" ∷ "R1L
 
 unfoldable pub opcodeName : Opcode → List ℕ
 unfolding opcodeNames
-opcodeName o = spelled (getD opcodeNames (opcodeNo o) "")
+opcodeName x = spelled (getD opcodeNames (opcodeNo x) "")
 
 unfoldable pub operandName : Operand → List ℕ
 unfolding operandNames
-operandName a = spelled (getD operandNames (operandNo a) "")
+operandName x = spelled (getD operandNames (operandNo x) "")

@@ -1,4 +1,4 @@
-// The listing's lines, without their newlines, into a lent buffer.
+// The listing's lines, without their newlines, into a buffer that is passed in.
 mod names; // names
 mod words; // the line in parts
 mod write; // the parts into the buffer

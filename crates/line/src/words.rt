@@ -3,9 +3,10 @@ ghost use mathlib.Core.Path.{_≡_};
 ghost use mathlib.Core.List.{_∷_, map};
 ghost use Prim.Native.Nat.{_<_, _≤_};
 ghost use Rattle.line.specs.Characters.{digit, hex};
-ghost use Rattle.line.specs.Line.{widthText, sizeText, equals};
+ghost use Rattle.line.specs.Line.{widthText, sizeText, digitsOf, equals};
 ghost use Rattle.line.specs.steps.Packed.{pack, placeText, lengthText, parts, endParts, refusedParts};
 use crate::names;
+use record::Operand;
 use record::Record;
 use record::Size;
 use record::Width;
@@ -58,6 +59,44 @@ fn digits(n: u8, v: u64) -> u64
     word
 }
 
+// How many digits of a name's number are shown.
+fn digits_of(x: Operand) -> u8
+    ensures { λ r. ⌜ (r ≡ digitsOf x) × (r ≤ 5) ⌝ }
+{
+    match x {
+        Operand::Imm4 => 1,
+        Operand::Imm8
+        | Operand::Disp8
+        | Operand::RegList
+        | Operand::Disp8_A0
+        | Operand::Disp8_A1
+        | Operand::Disp8_SB
+        | Operand::Disp8_FB
+        | Operand::Disp8_SP
+        | Operand::Bit_R0
+        | Operand::Bit_R1
+        | Operand::Bit_R2
+        | Operand::Bit_R3
+        | Operand::Bit_A0
+        | Operand::Bit_A1
+        | Operand::Bit_Disp8_A0
+        | Operand::Bit_Disp8_A1
+        | Operand::Bit_Disp8_SB
+        | Operand::Bit_Disp8_FB => 2,
+        Operand::Imm16
+        | Operand::Abs16
+        | Operand::Disp16_A0
+        | Operand::Disp16_A1
+        | Operand::Disp16_SB
+        | Operand::Bit_Abs16
+        | Operand::Bit_Disp16_A0
+        | Operand::Bit_Disp16_A1
+        | Operand::Bit_Disp16_SB => 4,
+        Operand::Abs20 | Operand::Disp20_A0 | Operand::Disp20_A1 => 5,
+        _ => 0,
+    }
+}
+
 // `=` and the digits.
 fn number_word(n: u8, v: u64) -> u64
     requires { ⌜ n ≤ 5 ⌝ }
@@ -91,13 +130,13 @@ pub fn words_of(first: u64, second: u64, r: Record) -> [u64; 14]
         size_word(size),
         a.0,
         a.1,
-        number_word(a.2, numbers.number0 as u64),
+        number_word(digits_of(op0), numbers.number0 as u64),
         b.0,
         b.1,
-        number_word(b.2, numbers.number1 as u64),
+        number_word(digits_of(op1), numbers.number1 as u64),
         c.0,
         c.1,
-        number_word(c.2, numbers.number2 as u64),
+        number_word(digits_of(op2), numbers.number2 as u64),
     ]
 }
 

@@ -2,7 +2,8 @@
 ghost use mathlib.Core.Path.{_≡_};
 ghost use Prim.Native.Nat.{_≤_};
 ghost use lib.ListN.{length};
-ghost use Rattle.line.specs.Left.{over, Writes};
+ghost use Rattle.laws.specs.Over.{over};
+ghost use Rattle.line.specs.Left.{Writes};
 ghost use Rattle.line.specs.steps.Packed.{chars, text};
 use crate::Written;
 use record::refusal;

@@ -14,7 +14,8 @@ use Rattle.sweep.specs.declared.step.Step.the-variants.{End, Accepted, Refused}
 use Rattle.sweep.specs.Walk.{stepAt, Onward, stopping, onward, visit, walk}
 use Rattle.sweep.proofs.Walk.{turned, by-rows, stops}
 use Rattle.line.specs.declared.Written.{Written}
-use Rattle.line.specs.Left.{over, left, Writes}
+use Rattle.laws.specs.Over.{over}
+use Rattle.line.specs.Left.{left, Writes}
 use Rattle.line.proofs.Lined.{line-short}
 use Rattle.listing.specs.Listing.{stepText, lineAt, textOf, listed}
 

@@ -4,11 +4,10 @@ use Prim.Native.Nat.{ℕ, _+_, _-_, _≤_}
 use mathlib.Core.Path.{_≡_, refl, sym, ap, _∙_}
 use mathlib.Core.List.{List, [], _++_, append-assoc, append-nil}
 use native.Mathlib.Omega.{arith}
-use lib.ListN.{length, take, drop, length-append}
-use lib.Seq.{take-at, length-take-le}
+use lib.ListN.{length, take, drop}
 use borrow.Rule.Slice.PartMut.{putMid}
-use Rattle.line.specs.Left.{over}
-use Rattle.line.proofs.Over.{lent}
+use Rattle.laws.specs.Over.{over}
+use Rattle.laws.proofs.Over.{put-taken, written-part}
 use Rattle.listing.specs.declared.page.Next.{Next}
 use Rattle.listing.specs.Listing.{listing}
 use Rattle.listing.specs.steps.Page.{toList, Paged, none, more}
@@ -16,11 +15,7 @@ use Rattle.listing.specs.steps.Page.{toList, Paged, none, more}
 module _ (at : ℕ) (l xs : List ℕ) {n : ℕ} {ys : List ℕ} (h : at + length xs ≤ length l)
     (put : (n ≡ length xs) × (ys ≡ over xs (take (length l - at) (drop at l)))) where
   filled : take (at + n) (putMid at (length l - at) l ys) ≡ take at l ++ xs
-  filled =
-      let p = take at l ++ xs in
-      let q = drop (length xs) (drop at l) in
-      let k : length p ≡ at + n = omega (arith, put .0, length-append (take at l) xs, length-take-le at l (omega arith)) in
-      ap (take (at + n)) (lent at l xs h (put .1) ∙ sym (append-assoc (take at l) xs q)) ∙ take-at p q (at + n) k
+  filled = ap (take (at + n)) (written-part at l xs (omega arith) (put .1)) ∙ put-taken at l xs h (ap (λ k. at + k) (put .0))
 
   -- the line there, and what is listed behind it
   pub line-more : (behind : List ℕ) {here whole : List ℕ} → here ≡ xs ++ behind → take at l ++ here ≡ whole → take (at + n) (putMid at (length l - at) l ys) ++ behind ≡ whole

@@ -1,4 +1,4 @@
--- The promise of m16c_decode leaves one outcome: the number returned, and every entry of the list that was lent.
+-- The promise of m16c_decode leaves one outcome: the number returned, and every entry of the list passed in.
 -- Assumes nothing.
 use Prim.Native.Nat.{ℕ}
 use mathlib.Core.Path.{_≡_, sym, _∙_}

@@ -1,4 +1,4 @@
--- What m16c_decode returns and leaves in the list that it is lent.
+-- What m16c_decode returns and leaves in the list passed in.
 use Prim.Native.Nat.{ℕ}
 use mathlib.Core.Path.{_≡_}
 use mathlib.Core.Bool.{Bool, true, false}
@@ -32,12 +32,12 @@ numbersOf x =
     ∷ []
 
 -- the number returned, and the list as it is left
-pub record Left : Type 0 where
+pub record Delivered : Type 0 where
   pub no : ℕ
   pub out : List ℕ
 
 -- 6 and nothing touched where the list has fewer than twelve entries; else the twelve numbers stand over its first twelve
-unfoldable pub decoded : List ℕ → ℕ → List ℕ → Left
+unfoldable pub decoded : List ℕ → ℕ → List ℕ → Delivered
 decoded image at out =
     pick (ltb (length out) 12) (record { no = 6; out = out })
     (record { no = decodeRows (drop at image) .refusal; out = numbersOf (decodeRows (drop at image)) ++ drop 12 out })

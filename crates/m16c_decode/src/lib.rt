@@ -1,4 +1,4 @@
-// What the bench tool links: the C ABI, thin over the proved crates.
+// The decoder for C, a crate of its own: the functions below are inlined into it only where they have one caller.
 ghost use mathlib.Core.Path.{_≡_};
 ghost use mathlib.Core.List.{_++_};
 ghost use Prim.Native.Nat.{_≤_};

@@ -1,4 +1,4 @@
--- What m16c_encode makes of the numbers that it is lent.
+-- What m16c_encode makes of the numbers that are passed in.
 use Prim.Native.Nat.{ℕ}
 use mathlib.Core.Path.{_≡_}
 use mathlib.Core.Bool.{Bool, true, false}

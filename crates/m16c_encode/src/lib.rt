@@ -14,22 +14,22 @@ fn is_valid(numbers: &[u32]) -> bool
     if numbers.len() < 12 {
         return false;
     }
-    if 97 < numbers[1] {
+    if names::LAST_OPCODE < numbers[1] {
         return false;
     }
-    if 3 < numbers[2] {
+    if names::LAST_SIZE < numbers[2] {
         return false;
     }
-    if 2 < numbers[3] {
+    if names::LAST_WIDTH < numbers[3] {
         return false;
     }
-    if 56 < numbers[4] {
+    if names::LAST_OPERAND < numbers[4] {
         return false;
     }
-    if 56 < numbers[5] {
+    if names::LAST_OPERAND < numbers[5] {
         return false;
     }
-    if 56 < numbers[6] {
+    if names::LAST_OPERAND < numbers[6] {
         return false;
     }
     if 0xFFFF < numbers[8] {

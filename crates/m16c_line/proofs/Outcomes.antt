@@ -1,4 +1,4 @@
--- The promise of m16c_line leaves one outcome: the number returned, the line's length, and every byte of the buffer that was lent.
+-- The promise of m16c_line leaves one outcome: the number returned, the line's length, and every byte of the buffer that was passed in.
 -- Assumes nothing.
 use Prim.Native.Nat.{ℕ}
 use mathlib.Core.Path.{_≡_, sym, _∙_}

@@ -8,17 +8,17 @@ use Rattle.laws.specs.Choice.{pick}
 use Rattle.record.specs.declared.Answer.{Answer}
 use Rattle.rows.specs.Run.{decodeRows}
 use Rattle.line.specs.Line.{lineOf}
-use Rattle.line.specs.Left.{Left, left}
+use Rattle.line.specs.Left.{Delivered, left}
 
 -- a refusal, length 0, and every byte as it was
-abbrev pub untouched : ℕ → List ℕ → Left
+abbrev pub untouched : ℕ → List ℕ → Delivered
 untouched e out = record { written = record { refusal = e; length = 0 }; buffer = out }
 
 -- an accepted place has its line in the listing; a refused one has none
-abbrev pub lineAt : ℕ → Answer → List ℕ → Left
+abbrev pub lineAt : ℕ → Answer → List ℕ → Delivered
 lineAt at x out = pick (eqb (x .refusal) 0) (left (lineOf at (x .inst)) out) (untouched (x .refusal) out)
 
-unfoldable pub lined : List ℕ → ℕ → List ℕ → Left
+unfoldable pub lined : List ℕ → ℕ → List ℕ → Delivered
 lined image at out = lineAt at (decodeRows (drop at image)) out
 
 -- the promise: the number returned, the line's length, and every byte of the buffer as it is left

@@ -11,7 +11,8 @@ use Rattle.record.specs.Numbers.{operandNo}
 use Rattle.manual.specs.Meaning.{Suffix, none, B, W, L, A, plus, minus, Spot, nothing, plain, behind, within, carry, counter, flag, Meaning, Entry, meaning, empty}
 use Rattle.manual.specs.Bits.{Condition, named, unnamed}
 use Rattle.manual.specs.Packed.{suffixNo, digits, spotNo, packed, packedCondition}
-use Rattle.record.proofs.Apart.{operandAt, operand-at, opcodes-apart}
+use Rattle.record.proofs.At.{operand-at}
+use Rattle.record.proofs.Apart.{operandAt, opcodes-apart}
 
 -- the numbers whose digits an operand's number is made of
 record Parts : Type 0 where
@@ -47,7 +48,8 @@ spot-sum (flag k) = refl
 
 remade : ℕ → ℕ → ℕ → ℕ → ℕ → Spot
 remade kind name start count number =
-    getD (nothing ∷ plain (operandAt name) ∷ behind (operandAt name) start count ∷ within (operandAt name) (plus number) ∷ within (operandAt name) (minus number) ∷ carry ∷ counter ∷ flag number ∷ []) kind nothing
+    getD (nothing ∷ plain (operandAt name) ∷ behind (operandAt name) start count ∷ within (operandAt name) (plus number)
+    ∷ within (operandAt name) (minus number) ∷ carry ∷ counter ∷ flag number ∷ []) kind nothing
 
 spotOf : Parts → Spot
 spotOf p = remade (p .kind) (p .name) (p .start) (p .count) (p .number)

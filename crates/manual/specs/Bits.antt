@@ -35,7 +35,8 @@ conditionAt c =
 
 -- BMcnd C: 7D Dn, n the condition; B and F are none
 abbrev pub bmcndCarry : ℕ → Entry
-bmcndCarry n = entryOf (getD (named BMGEU ∷ named BMGTU ∷ named BMEQ ∷ named BMN ∷ named BMLTU ∷ named BMLEU ∷ named BMNE ∷ named BMPZ ∷ named BMLE ∷ named BMO ∷ named BMGE ∷ unnamed ∷ named BMGT ∷ named BMNO ∷ named BMLT ∷ []) n unnamed)
+bmcndCarry n = entryOf (getD (named BMGEU ∷ named BMGTU ∷ named BMEQ ∷ named BMN ∷ named BMLTU ∷ named BMLEU ∷ named BMNE ∷ named BMPZ ∷ named BMLE
+    ∷ named BMO ∷ named BMGE ∷ unnamed ∷ named BMGT ∷ named BMNO ∷ named BMLT ∷ []) n unnamed)
   where
     entryOf : Condition → Entry
     entryOf (named o) = only o none (stands carry)

@@ -5,7 +5,11 @@ use mathlib.Core.List.{List, [], _∷_}
 use lib.ListN.{getD}
 use Rattle.record.specs.declared.Opcode.{Opcode}
 use Rattle.record.specs.declared.Operand.{Operand}
-use Rattle.record.specs.declared.Operand.the-variants.{Imm8, Imm16, R0L, R0H, R1L, R1H, R0, R1, R2, R3, R2R0, R3R1, A0, A1, A1A0, «Bit_R0», «Bit_R1», «Bit_R2», «Bit_R3», «Bit_A0», «Bit_A1», «Bit_Deref_A0», «Bit_Deref_A1», «Bit_Disp8_A0», «Bit_Disp8_A1», «Bit_Disp8_SB», «Bit_Disp8_FB», «Bit_Disp16_A0», «Bit_Disp16_A1», «Bit_Disp16_SB», «Bit_Abs16», «Disp8_A0», «Disp8_A1», «Disp8_SB», «Disp8_FB», «Disp16_A0», «Disp16_A1», «Disp16_SB», «Disp20_A0», «Disp20_A1», «Deref_A0», «Deref_A1», Abs16, INTBL, INTBH, FLG, ISP, SP, SB, FB}
+use Rattle.record.specs.declared.Operand.the-variants.{Imm8, Imm16, R0L, R0H, R1L, R1H, R0, R1, R2, R3, R2R0, R3R1, A0, A1, A1A0, «Bit_R0», «Bit_R1», «Bit_R2»}
+use Rattle.record.specs.declared.Operand.the-variants.{«Bit_R3», «Bit_A0», «Bit_A1», «Bit_Deref_A0», «Bit_Deref_A1», «Bit_Disp8_A0», «Bit_Disp8_A1», «Bit_Disp8_SB»}
+use Rattle.record.specs.declared.Operand.the-variants.{«Bit_Disp8_FB», «Bit_Disp16_A0», «Bit_Disp16_A1», «Bit_Disp16_SB», «Bit_Abs16», «Disp8_A0», «Disp8_A1»}
+use Rattle.record.specs.declared.Operand.the-variants.{«Disp8_SB», «Disp8_FB», «Disp16_A0», «Disp16_A1», «Disp16_SB», «Disp20_A0», «Disp20_A1», «Deref_A0», «Deref_A1»}
+use Rattle.record.specs.declared.Operand.the-variants.{Abs16, INTBL, INTBH, FLG, ISP, SP, SB, FB}
 use Rattle.manual.specs.Meaning.{Suffix, none, B, W, L, A, Spot, nothing, plain, behind, Entry, meaning, empty}
 
 -- what a code selects for one operand of the syntax

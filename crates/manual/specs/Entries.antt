@@ -6,7 +6,9 @@ use lib.Dec.{ltb, eqb}
 use lib.ListN.{length, getD}
 use Rattle.laws.specs.Choice.{pick}
 use Rattle.laws.specs.Range.{total}
-use Rattle.record.specs.declared.Opcode.the-variants.{ABS, ADC, ADCF, ADD, AND, BAND, BCLR, BNAND, BNOR, BNOT, BNTST, BNXOR, BOR, BSET, BTST, BTSTC, BTSTS, BXOR, CMP, DADC, DADD, DIV, DIVU, DIVX, DSBB, DSUB, FCLR, FSET, JMPI, JSRI, LDCTX, MOVHH, MOVHL, MOVLH, MOVLL, MUL, MULU, NEG, NOT, OR, POPC, PUSHC, RMPA, ROLC, RORC, ROT, SBB, SHA, SHL, SMOVB, SMOVF, SSTR, STCTX, SUB, TST, XOR}
+use Rattle.record.specs.declared.Opcode.the-variants.{ABS, ADC, ADCF, ADD, AND, BAND, BCLR, BNAND, BNOR, BNOT, BNTST, BNXOR, BOR, BSET, BTST, BTSTC, BTSTS, BXOR, CMP}
+use Rattle.record.specs.declared.Opcode.the-variants.{DADC, DADD, DIV, DIVU, DIVX, DSBB, DSUB, FCLR, FSET, JMPI, JSRI, LDCTX, MOVHH, MOVHL, MOVLH, MOVLL, MUL, MULU}
+use Rattle.record.specs.declared.Opcode.the-variants.{NEG, NOT, OR, POPC, PUSHC, RMPA, ROLC, RORC, ROT, SBB, SHA, SHL, SMOVB, SMOVF, SSTR, STCTX, SUB, TST, XOR}
 use Rattle.record.specs.declared.Operand.the-variants.{R2R0, R3R1}
 use Rattle.manual.specs.Meaning.{Suffix, B, W, Entry, meaning, empty}
 use Rattle.manual.specs.Codes.{blank}

@@ -5,4 +5,5 @@ pub mod general; // Operand_RegDerefDispAbs
 pub mod bit; // Operand_BitRegDerefDispAbs
 pub mod long; // Operand_RegDerefDisp20Abs
 pub mod control; // Operand_IntFlgSpSbFb
+pub mod set; // numbers by which a row is told apart
 pub mod mul; // the destinations that MUL and MULU refuse

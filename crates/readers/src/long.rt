@@ -1,9 +1,10 @@
 ghost use mathlib.Core.Path.{_≡_};
-ghost use Prim.Native.Nat.{_%_};
+ghost use Prim.Native.Nat.{_%_, _<_};
 ghost use Rattle.rows.specs.Codes.{nameJ, noPair, numJ};
 ghost use Rattle.rows.specs.Run.{reading};
 use crate::general;
 use crate::numbers;
+use crate::set;
 use record::Got;
 use record::Operand;
 use record::Seen;
@@ -36,9 +37,10 @@ pub fn long_name(code: u8) -> Operand
 
 // J(code): no register pair has code 2, 3 or 5.
 pub fn long_refused(code: u8) -> bool
+    requires { ⌜ code < 16 ⌝ }
     ensures { λ r. ⌜ r ≡ noPair code ⌝ }
 {
-    (code == 2) | (code == 3) | (code == 5)
+    set::has(0x2C, code)
 }
 
 // J(code): 20 bits at C and D, the rest is as G.

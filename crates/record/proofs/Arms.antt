@@ -7,7 +7,7 @@ use mathlib.Core.List.{List, [], _∷_}
 use mathlib.Core.Logic.{inl, inr}
 use native.Mathlib.Omega.{arith}
 use lib.Dec.{T, eqb}
-use lib.ListN.{getD}
+use lib.ListN.{length, getD}
 use types.Run.{OneOf}
 use denote.Enum.Declared.{tagOf}
 use borrow.Author.Tests.{eqb-true, eq-eqb}
@@ -19,9 +19,11 @@ use Rattle.record.specs.declared.Opcode.the-variants.{NOP}
 use Rattle.record.specs.declared.Operand.{Operand}
 use Rattle.record.specs.declared.Operand.the-variants.{Nothing}
 use Rattle.record.specs.Numbers.{opcodeNo, operandNo}
+use Rattle.record.specs.Names.{opcodes, operands}
 use Rattle.record.proofs.Opcode as opcode
 use Rattle.record.proofs.Operand.{the-type}
-use Rattle.record.proofs.Apart.{opcodes, opcode-at, operands, operand-at, operands-apart}
+use Rattle.record.proofs.At.{opcode-at, operand-at}
+use Rattle.record.proofs.Apart.{operands-apart}
 
 -- one of some numbers, as a test
 abbrev pub has : List ℕ → ℕ → Bool
@@ -43,10 +45,10 @@ without ks zero i = []
 without ks (suc n) i = pick (has ks i) (without ks n (suc i)) (i ∷ without ks n (suc i))
 
 abbrev pub others : List Operand → List ℕ
-others ns = without (keys ns) 57 0
+others ns = without (keys ns) (length operands) 0
 
 abbrev pub otherOpcodes : List Opcode → List ℕ
-otherOpcodes ns = without (opcodeKeys ns) 98 0
+otherOpcodes ns = without (opcodeKeys ns) (length opcodes) 0
 
 has-first : (k x : ℕ) (ks : List ℕ) → x ≡ k → has (k ∷ ks) x ≡ true
 has-first k x ks e = rw (eq-eqb x k e) refl

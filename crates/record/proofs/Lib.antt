@@ -1,3 +1,4 @@
+pub mod At
 pub mod Apart
 pub mod Ends
 pub mod Arms

@@ -1,4 +1,5 @@
 -- The name of each number: the places in the enums. A number too large names what the blank record holds.
+-- Made by scripts/tables/make-names from the enums of crates/record/src/lib.rt.
 use Prim.Native.Nat.{ℕ}
 use mathlib.Core.List.{List, [], _∷_}
 use lib.ListN.{getD}

@@ -7,7 +7,10 @@ use lib.Dec.{eqb}
 use Rattle.record.specs.declared.Record.{Record}
 use Rattle.record.specs.declared.Key.{Key}
 use Rattle.record.specs.declared.Operand.{Operand}
-use Rattle.record.specs.declared.Operand.the-variants.{Imm4, Imm8, Imm16, RegList, Abs16, Abs20, Disp8, «Deref_A0», «Deref_A1», «Disp8_A0», «Disp8_A1», «Disp8_SB», «Disp8_FB», «Disp8_SP», «Disp16_A0», «Disp16_A1», «Disp16_SB», «Disp20_A0», «Disp20_A1», «Bit_R0», «Bit_R1», «Bit_R2», «Bit_R3», «Bit_A0», «Bit_A1», «Bit_Disp8_A0», «Bit_Disp8_A1», «Bit_Disp8_SB», «Bit_Disp8_FB», «Bit_Disp16_A0», «Bit_Disp16_A1», «Bit_Disp16_SB», «Bit_Abs16»}
+use Rattle.record.specs.declared.Operand.the-variants.{Imm4, Imm8, Imm16, RegList, Abs16, Abs20, Disp8, «Deref_A0», «Deref_A1», «Disp8_A0», «Disp8_A1», «Disp8_SB», «Disp8_FB»}
+use Rattle.record.specs.declared.Operand.the-variants.{«Disp8_SP», «Disp16_A0», «Disp16_A1», «Disp16_SB», «Disp20_A0», «Disp20_A1», «Bit_R0», «Bit_R1», «Bit_R2», «Bit_R3», «Bit_A0»}
+use Rattle.record.specs.declared.Operand.the-variants.{«Bit_A1», «Bit_Disp8_A0», «Bit_Disp8_A1», «Bit_Disp8_SB», «Bit_Disp8_FB», «Bit_Disp16_A0», «Bit_Disp16_A1», «Bit_Disp16_SB»}
+use Rattle.record.specs.declared.Operand.the-variants.{«Bit_Abs16»}
 use Rattle.record.specs.Numbers.{operandNo}
 -- the field that holds an operand's number: none; imm_wide; dispabs; first
 use Rattle.record.specs.declared.fields.Field.{Field}

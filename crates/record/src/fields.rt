@@ -65,20 +65,29 @@ pub fn field_of(o: Operand) -> Field
     }
 }
 
-// Of two operands that ask for `dispabs`, the one that it does not belong to has `first`.
-pub fn shared_field(own: Field, other: Field, others: bool) -> Field
-    ensures { λ r. ⌜ r ≡ shared own other others ⌝ }
+// An operand's own field beside another's: where both ask for `dispabs` and it is the other's, `first`.
+// (The operands are passed in, not their fields: so the compiler makes bit tests of the names.)
+pub fn shared_field(own: Operand, other: Operand, others: bool) -> Field
+    ensures { λ r. ⌜ r ≡ shared (fieldOf own) (fieldOf other) others ⌝ }
 {
-    match own {
-        Field::Nowhere => own,
-        Field::Wide => own,
-        Field::Early => own,
-        Field::Short => match other {
-            Field::Nowhere => own,
-            Field::Wide => own,
-            Field::Early => own,
-            Field::Short => { if others { Field::Early } else { own } }
-        },
+    let field = field_of(own);
+    match field {
+        Field::Nowhere => field,
+        Field::Wide => field,
+        Field::Early => field,
+        Field::Short => {
+            if others {
+                let beside = field_of(other);
+                match beside {
+                    Field::Nowhere => field,
+                    Field::Wide => field,
+                    Field::Early => field,
+                    Field::Short => Field::Early,
+                }
+            } else {
+                field
+            }
+        }
     }
 }
 
@@ -100,12 +109,10 @@ pub fn numbers_of(r: Record) -> Numbers
     let op0 = r.op0;
     let op1 = r.op1;
     let op2 = r.op2;
-    let field0 = field_of(op0);
-    let field1 = field_of(op1);
     let on_stack = same_name(op0, Operand::Disp8_SP);
     Numbers {
-        number0: value_of(shared_field(field0, field1, !on_stack), r),
-        number1: value_of(shared_field(field1, field0, on_stack), r),
+        number0: value_of(shared_field(op0, op1, !on_stack), r),
+        number1: value_of(shared_field(op1, op0, on_stack), r),
         number2: value_of(field_of(op2), r),
     }
 }

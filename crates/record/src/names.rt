@@ -1,6 +1,7 @@
 // The name of each number; a number too large names what the blank record holds. That is tested before the match, so that behind a
 // caller's own test nothing is left of either: the number is the name. (Of a match with three arms the compiler makes choices, so the
 // widths have a fourth.)
+// Made by scripts/tables/make-names from the enums of crates/record/src/lib.rt.
 ghost use mathlib.Core.Path.{_≡_};
 ghost use Rattle.record.specs.Names.{opcodeAt, sizeAt, widthAt, operandAt};
 use crate::Opcode;
@@ -8,10 +9,18 @@ use crate::Operand;
 use crate::Size;
 use crate::Width;
 
+pub const LAST_OPCODE: u32 = 97;
+
+pub const LAST_SIZE: u32 = 3;
+
+pub const LAST_WIDTH: u32 = 2;
+
+pub const LAST_OPERAND: u32 = 56;
+
 pub fn opcode_at(n: u32) -> Opcode
     ensures { λ r. ⌜ r ≡ opcodeAt n ⌝ }
 {
-    if 97 < n {
+    if LAST_OPCODE < n {
         return Opcode::NOP;
     }
     match n {
@@ -119,7 +128,7 @@ pub fn opcode_at(n: u32) -> Opcode
 pub fn size_at(n: u32) -> Size
     ensures { λ r. ⌜ r ≡ sizeAt n ⌝ }
 {
-    if 3 < n {
+    if LAST_SIZE < n {
         return Size::None;
     }
     match n {
@@ -133,7 +142,7 @@ pub fn size_at(n: u32) -> Size
 pub fn width_at(n: u32) -> Width
     ensures { λ r. ⌜ r ≡ widthAt n ⌝ }
 {
-    if 2 < n {
+    if LAST_WIDTH < n {
         return Width::None;
     }
     match n {
@@ -147,7 +156,7 @@ pub fn width_at(n: u32) -> Width
 pub fn operand_at(n: u32) -> Operand
     ensures { λ r. ⌜ r ≡ operandAt n ⌝ }
 {
-    if 56 < n {
+    if LAST_OPERAND < n {
         return Operand::Nothing;
     }
     match n {

@@ -1,4 +1,5 @@
-// The number of each name.
+// The number of each name: its place in its enum.
+// Made by scripts/tables/make-names from the enums of crates/record/src/lib.rt.
 ghost use mathlib.Core.Path.{_≡_};
 ghost use Rattle.record.specs.Numbers.{opcodeNo, sizeNo, widthNo, operandNo};
 use crate::Opcode;

@@ -6,11 +6,9 @@ use lib.ListN.{take}
 use Rattle.record.specs.declared.Answer.{Answer}
 use Rattle.rows.specs.Run.{decodeRows}
 use Rattle.line.specs.Characters.{spelled}
-use Rattle.replay.specs.declared.verdict.Verdict.{Verdict}
 use Rattle.replay.specs.Form.{Gives}
 use Rattle.replay.specs.Hex.{digitAt, bytesAt}
 use Rattle.replay.specs.Numbers.{numbersIn, numbersOf}
-use Rattle.replay.specs.Verdict.{Judged}
 
 -- bytes given, eight bytes; refusal, bytes taken; opcode, size, operands; imm_wide, dispabs, length
 abbrev pub form : List ℕ
@@ -27,7 +25,3 @@ answerTo s = decodeRows (take (digitAt s 0) (bytesAt 8 s 2))
 -- the numbers that the line says are those of the answer
 abbrev pub Right : List ℕ → Type 0
 Right s = numbersIn s ≡ numbersOf (answerTo s)
-
--- what a verdict says of the line
-abbrev pub Says : Verdict → List ℕ → Type 0
-Says v s = Judged (Whole s) (Right s) v

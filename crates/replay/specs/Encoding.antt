@@ -5,10 +5,8 @@ use lib.ListN.{replicate}
 use Rattle.encode_rules.specs.Written.{Left, outcome}
 use Rattle.m16c_encode.specs.Numbers.{EncodesNumbers}
 use Rattle.line.specs.Characters.{spelled}
-use Rattle.replay.specs.declared.verdict.Verdict.{Verdict}
 use Rattle.replay.specs.Form.{Has}
 use Rattle.replay.specs.Hex.{digitAt, byteAt, wordAt, longAt, bytesAt}
-use Rattle.replay.specs.Verdict.{Judged}
 
 -- opcode, size, width, operands; imm_wide; dispabs and first; refusal, length, seven bytes
 abbrev pub form : List ℕ
@@ -29,7 +27,3 @@ outcomeIn s = outcome (digitAt s 30) (digitAt s 32) (bytesAt 7 s 34)
 -- the record, encoded from the first of seven zero bytes on, gives what the line says
 abbrev pub Right : List ℕ → Type 0
 Right s = EncodesNumbers (recordIn s) (replicate 7 0) 0 (outcomeIn s)
-
--- what a verdict says of the line
-abbrev pub Says : Verdict → List ℕ → Type 0
-Says v s = Judged (Whole s) (Right s) v

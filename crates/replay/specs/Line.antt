@@ -4,26 +4,27 @@ use mathlib.Core.List.{List}
 use lib.Dec.{eqb}
 use lib.ListN.{getD}
 use Rattle.laws.specs.Choice.{pick}
+use Rattle.replay.specs.declared.kind.Kind.{Kind}
+use Rattle.replay.specs.declared.kind.Kind.the-variants.{Encodes, Sweeps, Decodes}
 use Rattle.replay.specs.declared.verdict.Verdict.{Verdict}
 use Rattle.replay.specs.Decoding as decoding
 use Rattle.replay.specs.Encoding as encoding
 use Rattle.replay.specs.Sweeping as sweeping
-
--- what is done with a line
-pub data Kind : Type 0 where
-  encodes : Kind
-  sweeps : Kind
-  decodes : Kind
+use Rattle.replay.specs.Verdict.{Judged}
 
 abbrev pub kindOf : List ℕ → Kind
-kindOf s = pick (eqb (getD s 0 0) 69) encodes (pick (eqb (getD s 0 0) 83) sweeps decodes)
+kindOf s = pick (eqb (getD s 0 0) 69) Encodes (pick (eqb (getD s 0 0) 83) Sweeps Decodes)
 
--- what a verdict says of a line of a kind
-abbrev pub SaysBy : Kind → Verdict → List ℕ → Type 0
-SaysBy encodes v s = encoding.Says v s
-SaysBy sweeps v s = sweeping.Says v s
-SaysBy decodes v s = decoding.Says v s
+abbrev pub Whole : Kind → List ℕ → Type 0
+Whole Encodes s = encoding.Whole s
+Whole Sweeps s = sweeping.Whole s
+Whole Decodes s = decoding.Whole s
 
--- and of any line
+abbrev pub Right : Kind → List ℕ → Type 0
+Right Encodes s = encoding.Right s
+Right Sweeps s = sweeping.Right s
+Right Decodes s = decoding.Right s
+
+-- what a verdict says of a line
 abbrev pub Says : Verdict → List ℕ → Type 0
-Says v s = SaysBy (kindOf s) v s
+Says v s = Judged (Whole (kindOf s) s) (Right (kindOf s) s) v

@@ -8,10 +8,8 @@ use Rattle.laws.specs.Choice.{pick}
 use Rattle.sweep.specs.Sweep.{Sweeps}
 use Rattle.sweep.specs.declared.Swept.{Swept}
 use Rattle.line.specs.Characters.{spelled}
-use Rattle.replay.specs.declared.verdict.Verdict.{Verdict}
 use Rattle.replay.specs.Form.{Gives}
 use Rattle.replay.specs.Hex.{digitAt, byteAt, wordAt, bytesAt}
-use Rattle.replay.specs.Verdict.{Judged}
 
 -- bytes given, sixteen bytes; count, stopping place, refusal; a bit for each start
 abbrev pub form : List ℕ
@@ -39,12 +37,8 @@ pub record Begins (n : ℕ) (entries these : List ℕ) : Type 0 where
   pub enough : n ≤ length entries
   pub same : take n entries ≡ these
 
--- the sweep of the image, lent sixteen zeros, returns what the line says, and leaves starts that begin with the places of its bits
+-- the sweep of the image, passed sixteen zeros, returns what the line says, and leaves starts that begin with the places of its bits
 pub record Right (s : List ℕ) : Type 0 where
   pub after : List ℕ
   pub sweeps : Sweeps (imageIn s) (replicate 16 0) (sweptIn s) after
   pub starts : Begins (byteAt s 36) after (places 16 (wordAt s 44))
-
--- what a verdict says of the line
-abbrev pub Says : Verdict → List ℕ → Type 0
-Says v s = Judged (Whole s) (Right s) v

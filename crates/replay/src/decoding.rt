@@ -1,15 +1,14 @@
 // A line with bytes, and what decoding them gives.
 ghost use mathlib.Core.Path.{_≡_};
 ghost use Rattle.replay.specs.Verdict.{Tells};
-ghost use Rattle.replay.specs.Decoding.{Whole, answerTo, Right, Says};
+ghost use Rattle.replay.specs.Decoding.{Whole, answerTo, Right};
 use crate::form;
 use crate::hex;
 use crate::numbers;
-use crate::verdict::Verdict;
 use record::Answer;
 
 // Bytes given, at most eight; eight bytes; refusal, bytes taken; opcode, size, operands; imm_wide, dispabs, length.
-fn is_whole(line: &[u8]) -> bool
+pub(crate) fn is_whole(line: &[u8]) -> bool
     ensures { λ r. ⌜ Tells r (Whole (now (line .entry))) ⌝ }
 {
     let form = b"# ################ # # ######### ######## #### #\n";
@@ -30,7 +29,7 @@ fn answer_to(line: &[u8]) -> Answer
     decode::decode(&bytes[..count], 0)
 }
 
-fn agrees(line: &[u8]) -> bool
+pub(crate) fn agrees(line: &[u8]) -> bool
     requires { ⌜ Whole (now line) ⌝ }
     ensures { λ r. ⌜ Tells r (Right (now (line .entry))) ⌝ }
 {
@@ -38,16 +37,4 @@ fn agrees(line: &[u8]) -> bool
         numbers::numbers_in(line),
         numbers::numbers_of(answer_to(line)),
     )
-}
-
-pub(crate) fn judge(line: &[u8]) -> Verdict
-    ensures { λ r. ⌜ Says r (now (line .entry)) ⌝ }
-{
-    if is_whole(line) {
-        if agrees(line) {
-            return Verdict::Agrees;
-        }
-        return Verdict::Differs;
-    }
-    Verdict::Malformed
 }

@@ -2,13 +2,12 @@
 ghost use mathlib.Core.Path.{_≡_};
 ghost use lib.ListN.{length};
 ghost use Rattle.replay.specs.Verdict.{Tells};
-ghost use Rattle.replay.specs.Encoding.{Whole, recordIn, Right, Says};
+ghost use Rattle.replay.specs.Encoding.{Whole, recordIn, Right};
 use crate::form;
 use crate::hex;
-use crate::verdict::Verdict;
 
 // Opcode, size, width, operands; imm_wide; dispabs and first; refusal, length, seven bytes.
-fn is_whole(line: &[u8]) -> bool
+pub(crate) fn is_whole(line: &[u8]) -> bool
     ensures { λ r. ⌜ Tells r (Whole (now (line .entry))) ⌝ }
 {
     let form = b"E########## ######## ######## # # ##############\n";
@@ -36,7 +35,7 @@ fn record_in(line: &[u8]) -> [u32; 12]
     ]
 }
 
-fn agrees(line: &[u8]) -> bool
+pub(crate) fn agrees(line: &[u8]) -> bool
     requires { ⌜ Whole (now line) ⌝ }
     ensures { λ r. ⌜ Tells r (Right (now (line .entry))) ⌝ }
 {
@@ -53,16 +52,4 @@ fn agrees(line: &[u8]) -> bool
     let mut bytes = [0u8; 7];
     hex::read_bytes(line, 34, &mut bytes);
     check::same(&buf, &bytes)
-}
-
-pub(crate) fn judge(line: &[u8]) -> Verdict
-    ensures { λ r. ⌜ Says r (now (line .entry)) ⌝ }
-{
-    if is_whole(line) {
-        if agrees(line) {
-            return Verdict::Agrees;
-        }
-        return Verdict::Differs;
-    }
-    Verdict::Malformed
 }

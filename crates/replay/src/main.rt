@@ -4,6 +4,7 @@ mod decoding;
 mod encoding;
 mod form;
 mod hex;
+mod kind;
 mod numbers;
 mod sweeping;
 mod tally;
@@ -12,8 +13,10 @@ mod verdict;
 ghost use mathlib.Core.Path.{_≡_};
 ghost use Prim.Native.Nat.{_≤_, _<_};
 ghost use lib.ListN.{length};
-ghost use Rattle.replay.specs.Line.{Says};
+ghost use Rattle.replay.specs.Line.{Whole, Right, Says};
 ghost use Rattle.replay.specs.Tally.{Counted, lineEnd, Tallied};
+ghost use Rattle.replay.specs.Verdict.{Tells};
+use kind::Kind;
 use libc::STDIN_FILENO;
 use libc::STDOUT_FILENO;
 use tally::Tally;
@@ -27,20 +30,38 @@ struct Step {
     goes_on: bool,
 }
 
-// A line's first character says what it holds: E a record to encode, S an image to sweep, a digit bytes to decode.
+fn is_whole(line: &[u8], kind: Kind) -> bool
+    ensures { λ r. ⌜ Tells r (Whole kind (now (line .entry))) ⌝ }
+{
+    match kind {
+        Kind::Encodes => encoding::is_whole(line),
+        Kind::Sweeps => sweeping::is_whole(line),
+        Kind::Decodes => decoding::is_whole(line),
+    }
+}
+
+fn agrees(line: &[u8], kind: Kind) -> bool
+    requires { ⌜ Whole kind (now line) ⌝ }
+    ensures { λ r. ⌜ Tells r (Right kind (now (line .entry))) ⌝ }
+{
+    match kind {
+        Kind::Encodes => encoding::agrees(line),
+        Kind::Sweeps => sweeping::agrees(line),
+        Kind::Decodes => decoding::agrees(line),
+    }
+}
+
 fn judge(line: &[u8]) -> Verdict
     ensures { λ r. ⌜ Says r (now (line .entry)) ⌝ }
 {
-    if line.len() == 0 {
-        return Verdict::Malformed;
+    let kind = kind::kind_of(line);
+    if is_whole(line, kind) {
+        if agrees(line, kind) {
+            return Verdict::Agrees;
+        }
+        return Verdict::Differs;
     }
-    if line[0] == b'E' {
-        return encoding::judge(line);
-    }
-    if line[0] == b'S' {
-        return sweeping::judge(line);
-    }
-    decoding::judge(line)
+    Verdict::Malformed
 }
 
 // The first line that differs is written when it is met, so that no later step has to keep it.

@@ -3,14 +3,13 @@ ghost use mathlib.Core.Path.{_≡_};
 ghost use lib.ListN.{length};
 ghost use Rattle.sweep.specs.Sweep.{Sweeps};
 ghost use Rattle.replay.specs.Verdict.{Tells};
-ghost use Rattle.replay.specs.Sweeping.{Whole, imageIn, sweptIn, places, Begins, Right, Says};
+ghost use Rattle.replay.specs.Sweeping.{Whole, imageIn, sweptIn, places, Begins, Right};
 use crate::form;
 use crate::hex;
-use crate::verdict::Verdict;
 use sweep::Swept;
 
 // Bytes given, at most sixteen; sixteen bytes; count, stopping place, refusal; a bit for each start.
-fn is_whole(line: &[u8]) -> bool
+pub(crate) fn is_whole(line: &[u8]) -> bool
     ensures { λ r. ⌜ Tells r (Whole (now (line .entry))) ⌝ }
 {
     let form = b"S################################## ## ## # ####\n";
@@ -83,7 +82,7 @@ fn swept_in(line: &[u8]) -> Swept
     }
 }
 
-fn agrees(line: &[u8]) -> bool
+pub(crate) fn agrees(line: &[u8]) -> bool
     requires { ⌜ Whole (now line) ⌝ }
     ensures { λ r. ⌜ Tells r (Right (now (line .entry))) ⌝ }
 {
@@ -93,16 +92,4 @@ fn agrees(line: &[u8]) -> bool
         return are_bits(&starts, s.count, hex::word_at(line, 44));
     }
     false
-}
-
-pub(crate) fn judge(line: &[u8]) -> Verdict
-    ensures { λ r. ⌜ Says r (now (line .entry)) ⌝ }
-{
-    if is_whole(line) {
-        if agrees(line) {
-            return Verdict::Agrees;
-        }
-        return Verdict::Differs;
-    }
-    Verdict::Malformed
 }

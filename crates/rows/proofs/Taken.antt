@@ -69,7 +69,8 @@ run-counted [] bs f s h = record { accepted = λ e. refl; short = omega arith; g
 run-counted (num k ∷ rs) bs f s h = then-counted (bytesOf k) bs s (reading k bs s) (run rs bs f) h (reading-went k bs s h) (run-counted rs bs f)
 run-counted (cond ∷ rs) bs f s h =
     picked _ _ (ltb (s .taken) (length bs)) _ _
-    (λ t. let l : s .taken < length bs = ltb-true (s .taken) (length bs) t in judged-counted (length bs) s (condOf (getD bs (s .taken) 0)) _ l (λ o. run-counted rs bs (renamed o f) (past s) (omega arith)))
+    (λ t. let l : s .taken < length bs = ltb-true (s .taken) (length bs) t in
+    judged-counted (length bs) s (condOf (getD bs (s .taken) 0)) _ l (λ o. run-counted rs bs (renamed o f) (past s) (omega arith)))
     (λ t. refused-counted _ _ 1 _ (omega arith) (λ e. refl) h (omega arith))
 run-counted (stop InvalidOpcode ∷ rs) bs f s h = refused-counted _ _ 2 _ (omega arith) (λ e. absurd (omega arith)) (omega arith) h
 run-counted (stop InvalidOperand ∷ rs) bs f s h = refused-counted _ _ 3 _ (omega arith) (λ e. absurd (omega arith)) (omega arith) h

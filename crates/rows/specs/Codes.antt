@@ -8,7 +8,11 @@ use Rattle.record.specs.declared.Opcode.the-variants.{NOP, BMGEU, BMGTU, BMEQ, 
 use Rattle.record.specs.declared.Width.{Width}
 use Rattle.record.specs.declared.Width.the-variants.{None, B, W}
 use Rattle.record.specs.declared.Operand.{Operand}
-use Rattle.record.specs.declared.Operand.the-variants.{Nothing, Imm8, Imm16, R0L, R0H, R1L, R1H, R0, R1, R2, R3, R2R0, R3R1, A0, A1, A1A0, «Deref_A0», «Deref_A1», «Disp8_A0», «Disp8_A1», «Disp8_SB», «Disp8_FB», «Disp16_A0», «Disp16_A1», «Disp16_SB», «Disp20_A0», «Disp20_A1», Abs16, «Bit_R0», «Bit_R1», «Bit_R2», «Bit_R3», «Bit_A0», «Bit_A1», «Bit_Deref_A0», «Bit_Deref_A1», «Bit_Disp8_A0», «Bit_Disp8_A1», «Bit_Disp8_SB», «Bit_Disp8_FB», «Bit_Disp16_A0», «Bit_Disp16_A1», «Bit_Disp16_SB», «Bit_Abs16», INTBL, INTBH, FLG, ISP, SP, SB, FB}
+use Rattle.record.specs.declared.Operand.the-variants.{Nothing, Imm8, Imm16, R0L, R0H, R1L, R1H, R0, R1, R2, R3, R2R0, R3R1, A0, A1, A1A0, «Deref_A0», «Deref_A1»}
+use Rattle.record.specs.declared.Operand.the-variants.{«Disp8_A0», «Disp8_A1», «Disp8_SB», «Disp8_FB», «Disp16_A0», «Disp16_A1», «Disp16_SB», «Disp20_A0», «Disp20_A1»}
+use Rattle.record.specs.declared.Operand.the-variants.{Abs16, «Bit_R0», «Bit_R1», «Bit_R2», «Bit_R3», «Bit_A0», «Bit_A1», «Bit_Deref_A0», «Bit_Deref_A1»}
+use Rattle.record.specs.declared.Operand.the-variants.{«Bit_Disp8_A0», «Bit_Disp8_A1», «Bit_Disp8_SB», «Bit_Disp8_FB», «Bit_Disp16_A0», «Bit_Disp16_A1»}
+use Rattle.record.specs.declared.Operand.the-variants.{«Bit_Disp16_SB», «Bit_Abs16», INTBL, INTBH, FLG, ISP, SP, SB, FB}
 use Rattle.laws.specs.Choice.{pick}
 use Rattle.rows.specs.Row.{Num, disp, imm, imm20, InvalidOperand, Read, num, stop, Condition, named, unnamed}
 
@@ -30,14 +34,16 @@ sizeG c = pick (ltb c 8) 0 (pick (ltb c 12) 1 2)
 
 -- Bit, T(c): as G, but codes 0 to 5 also read one byte
 abbrev pub nameT : ℕ → Operand
-nameT c = getD («Bit_R0» ∷ «Bit_R1» ∷ «Bit_R2» ∷ «Bit_R3» ∷ «Bit_A0» ∷ «Bit_A1» ∷ «Bit_Deref_A0» ∷ «Bit_Deref_A1» ∷ «Bit_Disp8_A0» ∷ «Bit_Disp8_A1» ∷ «Bit_Disp8_SB» ∷ «Bit_Disp8_FB» ∷ «Bit_Disp16_A0» ∷ «Bit_Disp16_A1» ∷ «Bit_Disp16_SB» ∷ «Bit_Abs16» ∷ []) c Nothing
+nameT c = getD («Bit_R0» ∷ «Bit_R1» ∷ «Bit_R2» ∷ «Bit_R3» ∷ «Bit_A0» ∷ «Bit_A1» ∷ «Bit_Deref_A0» ∷ «Bit_Deref_A1» ∷ «Bit_Disp8_A0» ∷ «Bit_Disp8_A1»
+    ∷ «Bit_Disp8_SB» ∷ «Bit_Disp8_FB» ∷ «Bit_Disp16_A0» ∷ «Bit_Disp16_A1» ∷ «Bit_Disp16_SB» ∷ «Bit_Abs16» ∷ []) c Nothing
 
 abbrev pub sizeT : ℕ → ℕ
 sizeT c = pick (ltb c 6) 1 (sizeG c)
 
 -- Long, J(c): 2, 3 and 5 name nothing and are refused, C and D are Disp20 with three bytes, the rest as G from 6 on
 abbrev pub nameJ : ℕ → Operand
-nameJ c = getD (R2R0 ∷ R3R1 ∷ Nothing ∷ Nothing ∷ A1A0 ∷ Nothing ∷ «Deref_A0» ∷ «Deref_A1» ∷ «Disp8_A0» ∷ «Disp8_A1» ∷ «Disp8_SB» ∷ «Disp8_FB» ∷ «Disp20_A0» ∷ «Disp20_A1» ∷ «Disp16_SB» ∷ Abs16 ∷ []) c Nothing
+nameJ c = getD (R2R0 ∷ R3R1 ∷ Nothing ∷ Nothing ∷ A1A0 ∷ Nothing ∷ «Deref_A0» ∷ «Deref_A1» ∷ «Disp8_A0» ∷ «Disp8_A1» ∷ «Disp8_SB» ∷ «Disp8_FB»
+    ∷ «Disp20_A0» ∷ «Disp20_A1» ∷ «Disp16_SB» ∷ Abs16 ∷ []) c Nothing
 
 -- Control, K(c): 0 names nothing and is refused
 abbrev pub nameK : ℕ → Operand

@@ -5,7 +5,11 @@ use mathlib.Core.List.{List, [], _∷_}
 use lib.ListN.{getD}
 use lib.Dec.{ltb, leb, eqb}
 use Rattle.record.specs.declared.Opcode.{Opcode}
-use Rattle.record.specs.declared.Opcode.the-variants.{NOP, ABS, ADC, ADCF, ADD, AND, BAND, BCLR, BMEQ, BMGEU, BMGT, BMGTU, BMLE, BMLEU, BMLTU, BMN, BMNE, BMO, BMPZ, BNAND, BNOR, BNOT, BNTST, BNXOR, BOR, BSET, BTST, BTSTC, BTSTS, BXOR, CMP, DADC, DADD, DIV, DIVU, DIVX, DSBB, DSUB, ENTER, EXITD, EXTS, GE, INT, JGE, JGT, JLE, JLT, JMPI, JNO, JO, JSRI, LDC, LDCTX, LDE, LDIPL, LT, MOV, MOVA, MOVHH, MOVHL, MOVLH, MOVLL, MUL, MULU, NEG, NO, NOT, OR, POP, POPC, PUSH, PUSHA, PUSHC, RMPA, ROLC, RORC, ROT, SBB, SHA, SHL, SMOVB, SMOVF, SSTR, STC, STCTX, STE, SUB, TST, WAIT, XCHG, XOR}
+use Rattle.record.specs.declared.Opcode.the-variants.{NOP, ABS, ADC, ADCF, ADD, AND, BAND, BCLR, BMEQ, BMGEU, BMGT, BMGTU, BMLE, BMLEU, BMLTU, BMN, BMNE, BMO, BMPZ}
+use Rattle.record.specs.declared.Opcode.the-variants.{BNAND, BNOR, BNOT, BNTST, BNXOR, BOR, BSET, BTST, BTSTC, BTSTS, BXOR, CMP, DADC, DADD, DIV, DIVU, DIVX, DSBB}
+use Rattle.record.specs.declared.Opcode.the-variants.{DSUB, ENTER, EXITD, EXTS, GE, INT, JGE, JGT, JLE, JLT, JMPI, JNO, JO, JSRI, LDC, LDCTX, LDE, LDIPL, LT, MOV, MOVA}
+use Rattle.record.specs.declared.Opcode.the-variants.{MOVHH, MOVHL, MOVLH, MOVLL, MUL, MULU, NEG, NO, NOT, OR, POP, POPC, PUSH, PUSHA, PUSHC, RMPA, ROLC, RORC, ROT}
+use Rattle.record.specs.declared.Opcode.the-variants.{SBB, SHA, SHL, SMOVB, SMOVF, SSTR, STC, STCTX, STE, SUB, TST, WAIT, XCHG, XOR}
 use Rattle.record.specs.declared.Size.{Size}
 use Rattle.record.specs.declared.Size.the-variants as size
 use Rattle.record.specs.declared.Width.{Width}

@@ -1,4 +1,4 @@
--- The sweep's promise leaves one outcome: what is returned, and every entry of the list that was lent.
+-- The sweep's promise leaves one outcome: what is returned, and every entry of the list that was passed in.
 -- Assumes nothing.
 use Prim.Native.Nat.{ℕ}
 use mathlib.Core.Path.{_≡_, sym, _∙_}

@@ -1,3 +1,4 @@
+// Decoding repeated: where the instructions of an image start, and where it stops.
 ghost use Rattle.sweep.specs.Sweep.{Sweeps};
 use record::refusal;
 use step::Step;

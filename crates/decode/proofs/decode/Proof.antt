@@ -4,8 +4,9 @@ use mathlib.Core.Path.{sym, ap, _∙_}
 use native.Mathlib.Omega.{arith}
 use denote.Ref.{now}
 use borrow.Author.Needs.{needs}
+use Rattle.laws.proofs.Rest.{rest}
 use Rattle.rows.specs.Run.{decodeBy, decodeRows}
-use Rattle.decode.proofs.Bytes.{drop-past, rest}
+use Rattle.decode.proofs.Bytes.{drop-past}
 use Rattle.decode.proofs.decode.Statement.{statement}
 use Rattle.decode.proofs.decode.Tie as tie
 

@@ -12,6 +12,7 @@ use Rattle.record.specs.declared.Size.the-variants as size
 use Rattle.record.specs.declared.Width.{Width}
 use Rattle.record.specs.declared.Operand.{Operand}
 use Rattle.record.specs.declared.Operand.the-variants.{Nothing, Abs20, «Disp20_A0», «Deref_A1A0», «Disp8_SP», R1H}
+use Rattle.readers.specs.steps.Set.{holds}
 use Rattle.rows.specs.Row.{Num, disp, imm, imm20, Read, num, Row}
 use Rattle.rows.specs.Codes.{nameG, nameI, sizeI, G, refuse}
 use Rattle.rows.specs.Rows.{sizeOf, badShift}
@@ -46,7 +47,7 @@ readsOf imm20 = num imm20 ∷ []
 
 -- ROT, SHL, SHA
 abbrev pub shift74 : ℕ → Bool
-shift74 h = (eqb h 6 || eqb h 14) || eqb h 15
+shift74 = holds 0xC040
 
 abbrev pub stop74 : Width → ℕ → ℕ → Bool
 stop74 w h n = pick (shift74 h) (badShift w n) false

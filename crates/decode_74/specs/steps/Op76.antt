@@ -1,6 +1,6 @@
 -- 76 and 77 as the code takes them apart: three shapes, with the opcode by a table of h. (The law that these are document 01's rows is in proofs/Table76.)
 use Prim.Native.Nat.{ℕ}
-use mathlib.Core.Bool.{Bool, _||_}
+use mathlib.Core.Bool.{Bool}
 use mathlib.Core.List.{[], _∷_}
 use lib.ListN.{getD}
 use lib.Dec.{eqb}
@@ -10,6 +10,7 @@ use Rattle.record.specs.declared.Opcode.the-variants.{NOP, TST, XOR, AND, OR, A
 use Rattle.record.specs.declared.Size.the-variants as size
 use Rattle.record.specs.declared.Width.{Width}
 use Rattle.record.specs.declared.Operand.the-variants.{Nothing}
+use Rattle.readers.specs.steps.Set.{holds}
 use Rattle.rows.specs.Row.{Row}
 use Rattle.rows.specs.Codes.{nameG, nameI, G, I}
 use Rattle.rows.specs.Rows.{sizeOf, row, sized, star, starIf}
@@ -31,10 +32,10 @@ both76 w h n = starIf (eqb h 14) (sized (opcode76 h) w (nameI w) (nameG w n) (G 
 
 -- DIVX and DIVU; ROLC, RORC, DIV and ABS
 abbrev pub isImmediate : ℕ → Bool
-isImmediate h = eqb h 9 || eqb h 12
+isImmediate = holds 0x1200
 
 abbrev pub isUnary : ℕ → Bool
-isUnary h = ((eqb h 10 || eqb h 11) || eqb h 13) || eqb h 15
+isUnary = holds 0xAC00
 
 abbrev pub table76 : Width → ℕ → ℕ → Row
 table76 w h n = pick (isImmediate h) (immediate76 w h) (pick (isUnary h) (unary76 w h n) (both76 w h n))

@@ -1,12 +1,13 @@
 -- Parts of 7D as the code takes them. (The laws that these are document 01's rows are in proofs/Table7D.)
 use Prim.Native.Nat.{ℕ, _+_, _%_}
-use mathlib.Core.Bool.{Bool, _||_}
+use mathlib.Core.Bool.{Bool}
 use mathlib.Core.List.{[], _∷_}
 use lib.ListN.{getD}
 use lib.Dec.{ltb, leb, eqb}
 use Rattle.laws.specs.Choice.{pick}
 use Rattle.record.specs.declared.Opcode.{Opcode}
 use Rattle.record.specs.declared.Opcode.the-variants.{NOP, JMPI, JSRI, JLE, JO, JGE, JGT, JNO, JLT, BMGEU, BMGTU, BMEQ, BMN, BMLTU, BMLEU, BMNE, BMPZ, BMLE, BMO, GE, BMGT, NO, LT}
+use Rattle.readers.specs.steps.Set.{holds}
 use Rattle.rows.specs.Row.{Row}
 use Rattle.rows.specs.Rows.{indirect, starIf}
 
@@ -23,7 +24,7 @@ signed3 n = pick (ltb n 4) n (0xFFFFFFF8 + n)
 
 -- the codes that name no condition
 abbrev pub noCondition : ℕ → Bool
-noCondition n = eqb n 11 || eqb n 15
+noCondition = holds 0x8800
 
 -- the jumps from code 8 on, and the conditions
 abbrev pub jumpAt : ℕ → Opcode
@@ -34,4 +35,4 @@ conditionBy n = getD (BMGEU ∷ BMGTU ∷ BMEQ ∷ BMN ∷ BMLTU ∷ BMLEU ∷ B
 
 -- GE, NO, LT
 abbrev pub markedBy : ℕ → Bool
-markedBy n = (eqb n 10 || eqb n 13) || eqb n 14
+markedBy = holds 0x6400

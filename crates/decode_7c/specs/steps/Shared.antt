@@ -1,9 +1,9 @@
 -- What 7C and 7D have together, as the code takes it apart. (The law that h = E is document 01's row is in proofs/Table7C7D.)
 use Prim.Native.Nat.{ℕ, _%_}
-use mathlib.Core.Bool.{Bool, true, false, _||_}
+use mathlib.Core.Bool.{Bool, true, false}
 use mathlib.Core.List.{[], _∷_}
 use lib.ListN.{getD}
-use lib.Dec.{ltb, leb, eqb}
+use lib.Dec.{leb, eqb}
 use Rattle.laws.specs.Choice.{pick}
 use Rattle.record.specs.declared.Opcode.{Opcode}
 use Rattle.record.specs.declared.Opcode.the-variants.{NOP, DIVU, DIV, PUSH, DIVX, DADD, DSUB, DADC, DSBB, SMOVF, SMOVB, SSTR, ADD, MUL, MULU}
@@ -12,6 +12,7 @@ use Rattle.record.specs.declared.Size.the-variants as size
 use Rattle.record.specs.declared.Width.{Width}
 use Rattle.record.specs.declared.Operand.{Operand}
 use Rattle.record.specs.declared.Operand.the-variants.{Nothing, A0, A1, SP}
+use Rattle.readers.specs.steps.Set.{holds}
 use Rattle.rows.specs.Row.{Row}
 use Rattle.rows.specs.Codes.{nameI, I, refuse}
 use Rattle.rows.specs.Rows.{sizeOf, row, star, badMul, decimalFrom, decimalTo}
@@ -29,7 +30,7 @@ decimalE n = leb 4 (n % 8)
 
 -- an immediate is operand 0
 abbrev pub immediateE : ℕ → Bool
-immediateE n = ltb n 4 || leb 11 n
+immediateE = holds 0xF80F
 
 abbrev pub sizeE : Bool → Width → Size
 sizeE true w = size.None

@@ -37,7 +37,7 @@ unfolding written
 none-left start = refl
 
 find-requires : tie.Need-find-requires
-find-requires c κs = sym (c .before .same .ensures) ∙ c .if1 .taken
+find-requires c κs = sym (c .before .same-name .ensures) ∙ c .if1 .taken
 
 same-length : tie.Need-same-length
 same-length c =
@@ -63,7 +63,7 @@ returns-2 c =
 returns-3 : tie.Need-returns-3
 returns-3 c =
     let start = c .before .before .before in
-    encodes start (third (start .args .r) (sym (c .before .same .ensures) ∙ c .if1 .left)) (none-left start)
+    encodes start (third (start .args .r) (sym (c .before .same-name .ensures) ∙ c .if1 .left)) (none-left start)
 
 pub encode-spec : {M : Type 1} → statement M
 encode-spec = tie.close (tie.spec (λ c κs. search needs) find-requires (λ c κs. search needs) same-length returns returns-2 returns-3)

@@ -34,4 +34,7 @@ loop-again : tie.Need-loop-again Inv-loop μ-loop
 loop-again c = omega (arith, c .before .before .out2 .given, c .before .before .before .before .before .before .before .loop .inv)
 
 pub list-spec : {M : Type 1} → statement M
-list-spec = tie.close (tie.spec Inv-loop μ-loop (λ c κs. search needs) (λ c. search needs) (λ c κs. search needs) slice-aggregate-fill (λ c κs. search needs) array-share-prefix-out slice-aggregate-write-all (λ c κs. search needs) loop-less loop-again (λ c. search needs))
+list-spec =
+    tie.close
+    (tie.spec Inv-loop μ-loop (λ c κs. search needs) (λ c. search needs) (λ c κs. search needs) slice-aggregate-fill (λ c κs. search needs)
+    array-share-prefix-out slice-aggregate-write-all (λ c κs. search needs) loop-less loop-again (λ c. search needs))

@@ -16,7 +16,8 @@ unfolding decoded
 returns c = record { returned = rw (lt-ltb _ 12 (c .if1 .taken)); kept = rw (lt-ltb _ 12 (c .if1 .taken)) }
 
 deliver-requires : tie.Need-deliver-requires
-deliver-requires c κs = let t = small (c .before .before .before .before .before .args .image .now) (c .before .before .before .before .before .args .at) (λ k. omega (arith, c .before .before .before .before .shared-slice-known .given k)) in
+deliver-requires c κs = let t = small (c .before .before .before .before .before .args .image .now)
+    (c .before .before .before .before .before .args .at) (λ k. omega (arith, c .before .before .before .before .shared-slice-known .given k)) in
     let l = short (c .before .before .before .before .before .args .image .now) (c .before .before .before .before .before .args .at) in
     let e = c .before .decode .ensures in
     (c .before .before .if1 .left, rw e t, rw e (omega arith))

@@ -20,4 +20,8 @@ valid c = accepted _ (record {
 })
 
 pub is-valid-spec : {M : Type 1} → statement M
-is-valid-spec = tie.close (tie.spec (λ c. refused _ (λ b. omega arith)) (λ c. search needs) (λ c. refused _ (λ b. omega arith)) (λ c. search needs) (λ c. refused _ (λ b. omega arith)) (λ c. search needs) (λ c. refused _ (λ b. omega arith)) (λ c. search needs) (λ c. refused _ (λ b. omega arith)) (λ c. search needs) (λ c. refused _ (λ b. omega arith)) (λ c. search needs) (λ c. refused _ (λ b. omega arith)) (λ c. search needs) (λ c. refused _ (λ b. omega arith)) (λ c. search needs) (λ c. refused _ (λ b. omega arith)) valid)
+is-valid-spec =
+    tie.close
+    (tie.spec (λ c. refused _ (λ b. omega arith)) (λ c. search needs) (λ c. refused _ (λ b. omega arith)) (λ c. search needs) (λ c. refused _ (λ b. omega arith))
+    (λ c. search needs) (λ c. refused _ (λ b. omega arith)) (λ c. search needs) (λ c. refused _ (λ b. omega arith)) (λ c. search needs) (λ c. refused _ (λ b. omega arith))
+    (λ c. search needs) (λ c. refused _ (λ b. omega arith)) (λ c. search needs) (λ c. refused _ (λ b. omega arith)) (λ c. search needs) (λ c. refused _ (λ b. omega arith)) valid)

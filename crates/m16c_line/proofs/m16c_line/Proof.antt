@@ -23,7 +23,11 @@ returns-2 c =
     let start = g .before .before .before .before .before .args in
     let same = ap (λ x. left (lineOf (start .at) (x .inst)) (start .out .now)) d in
     let e = same ∙ sym (accepted (start .image .now) (start .at) (start .out .now) (ap (λ x. x .refusal) (sym d) ∙ g .if1 .left)) in
-    record { returned = ap (λ w. w .refusal) (l .returned) ∙ ap (λ w. w .written .refusal) e; measured = ap (λ w. w .length) (l .returned) ∙ ap (λ w. w .written .length) e; kept = l .kept ∙ ap (λ w. w .buffer) e }
+    record {
+      returned = ap (λ w. w .refusal) (l .returned) ∙ ap (λ w. w .written .refusal) e;
+      measured = ap (λ w. w .length) (l .returned) ∙ ap (λ w. w .written .length) e;
+      kept = l .kept ∙ ap (λ w. w .buffer) e;
+    }
 
 pub m16c-line-spec : {M : Type 1} → statement M
 m16c-line-spec = tie.close (tie.spec (λ c κs. search needs) (λ c. search needs) returns (λ c κs. search needs) (λ c. search needs) (λ c. search needs) returns-2)

@@ -29,4 +29,5 @@ returns c =
     subst (λ k. Tallied text k (c .before .before .before .args .t) (l .tally)) end (l .inv .1)
 
 pub replay-lines-spec : {M : Type 1} → statement M
-replay-lines-spec = tie.close (tie.spec Inv-loop μ-loop loop-holds (λ c κs. search needs) (λ c. search needs) (λ c. search needs) (λ c. search needs) (λ c κs. tt) (λ c. search needs) loop-again returns)
+replay-lines-spec = tie.close (tie.spec Inv-loop μ-loop loop-holds
+    (λ c κs. search needs) (λ c. search needs) (λ c. search needs) (λ c. search needs) (λ c κs. tt) (λ c. search needs) loop-again returns)

@@ -1,19 +1,18 @@
 -- `decode_74::op74::decode_op74` meets its contract.
 -- Assumes nothing.
 use Prim.Native.Nat.{_/_, _%_}
-use mathlib.Core.Path.{_≡_, refl, sym, _∙_}
 use mathlib.Core.Bool.{false}
+use mathlib.Core.Path.{_≡_, refl, sym, _∙_}
 use native.Mathlib.Omega.{arith}
 use borrow.Author.Needs.{needs}
-use Rattle.rows.specs.Row.{InvalidOperand, Num}
+use Rattle.rows.specs.Rows.{row74}
+use Rattle.rows.proofs.Steps.{ends, goes, stops, done}
 use Rattle.rows.specs.Codes.{nameG}
 use Rattle.rows.specs.Run.{runRow}
-use Rattle.rows.specs.Rows.{row74}
-use Rattle.rows.proofs.Steps.{ends, goes, stops}
+use Rattle.rows.specs.Row.{InvalidOperand, Num}
 use Rattle.readers.specs.steps.Width.{widthOf}
-use Rattle.readers.proofs.Finish.{ended}
-use Rattle.decode_74.specs.steps.Op74.{other74, rest74, stop74, table74}
 use Rattle.decode_74.proofs.Table74.{tables74, behind}
+use Rattle.decode_74.specs.steps.Op74.{other74, rest74, stop74, table74}
 use Rattle.decode_74.proofs.op74.decode_op74.Statement.{statement}
 use Rattle.decode_74.proofs.op74.decode_op74.Tie as tie
 
@@ -45,11 +44,12 @@ returns c = rw (tabled (c .before .before .before .before), sym (c .before .befo
 
 returns-2 : tie.Need-returns-2
 unfolding runRow table74
-returns-2 c = let g = c .before .before .before .before .before .before in
+returns-2 c = let g = c .before .before .before .before .before .before .before .before .before in
     rw (tabled (start g), not-stopped g, c .before .if2 .taken)
-    (goes _ _ _ _ (g .general .ensures) _ (c .before .before .before .before .s .given .1)
+    (goes _ _ _ _ (g .general .ensures) _ (c .before .before .before .before .before .before .before .s .given .1)
     (behind (rest g) _ _ _
-    (ended _ _ _ _ (c .before .before .rest-74 .ensures) (c .finish .ensures) refl (g .before .before .size-74 .ensures) (g .before .width-of .ensures) (name-is g) (other-is g) refl)))
+    (goes _ _ _ _ (c .before .before .before .before .before .rest-74 .ensures) _ (c .before .before .before .t .given .1)
+    (done _ _ _ (c .accept .ensures) refl (g .before .before .size-74 .ensures) (g .before .width-of .ensures) (name-is g) (other-is g) refl))))
 
 returns-3 : tie.Need-returns-3
 unfolding runRow table74
@@ -58,15 +58,23 @@ returns-3 c = let g = c .before .before .before in
 
 returns-4 : tie.Need-returns-4
 unfolding runRow table74
-returns-4 c = let g = c .before .before .before .before .before .before in
+returns-4 c = let g = c .before .before .before .before .before .before .before in
+    rw (tabled (start g), not-stopped g)
+    (goes _ _ _ _ (g .general .ensures) _ (c .before .before .before .before .before .s .given .1)
+    (behind (rest g) _ _ _ (ends _ _ _ _ (c .before .before .before .rest-74 .ensures) _ (c .before .enum-told2 .given .1) (c .refuse3 .ensures))))
+
+returns-5 : tie.Need-returns-5
+unfolding runRow table74
+returns-5 c = let g = c .before .before .before .before .before .before .before .before .before in
     rw (tabled (start g), not-stopped g, c .before .if2 .left)
-    (goes _ _ _ _ (g .general .ensures) _ (c .before .before .before .before .s .given .1)
+    (goes _ _ _ _ (g .general .ensures) _ (c .before .before .before .before .before .before .before .s .given .1)
     (behind (rest g) _ _ _
-    (ended _ _ _ _ (c .before .before .rest-74 .ensures) (c .finish2 .ensures) refl (g .before .before .size-74 .ensures) (g .before .width-of .ensures) (other-is g) (name-is g) refl)))
+    (goes _ _ _ _ (c .before .before .before .before .before .rest-74 .ensures) _ (c .before .before .before .t .given .1)
+    (done _ _ _ (c .accept2 .ensures) refl (g .before .before .size-74 .ensures) (g .before .width-of .ensures) (other-is g) (name-is g) refl))))
 
 pub decode-op74-spec : {M : Type 1} → statement M
 decode-op74-spec =
     tie.close
     (tie.spec (λ c κs. search needs) (λ c κs. search needs) returns (λ c κs. search needs) (λ c κs. search needs) (λ c. search needs) (λ c. search needs)
     (λ c κs. search needs) (λ c κs. search needs) (λ c κs. search needs) (λ c. search needs) (λ c κs. search needs) (λ c. search needs) (λ c κs. search needs)
-    (λ c κs. search needs) returns-2 (λ c κs. search needs) returns-3 returns-4)
+    (λ c. search needs) (λ c κs. search needs) (λ c. search needs) (λ c κs. search needs) returns-2 (λ c κs. search needs) returns-3 returns-4 returns-5)

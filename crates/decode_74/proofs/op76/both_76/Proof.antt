@@ -2,9 +2,9 @@
 -- Assumes nothing.
 use mathlib.Core.Path.{refl}
 use borrow.Author.Needs.{needs}
-use Rattle.rows.specs.Rows.{row}
 use Rattle.rows.specs.Run.{runRow}
 use Rattle.rows.proofs.Steps.{ends, goes}
+use Rattle.rows.specs.Rows.{row}
 use Rattle.readers.proofs.Finish.{ended}
 use Rattle.decode_74.specs.steps.Op76.{both76}
 use Rattle.decode_74.proofs.op76.both_76.Statement.{statement}

@@ -2,8 +2,8 @@
 -- Assumes nothing.
 use mathlib.Core.Path.{refl}
 use borrow.Author.Needs.{needs}
-use Rattle.rows.specs.Rows.{row}
 use Rattle.rows.specs.Run.{runRow}
+use Rattle.rows.specs.Rows.{row}
 use Rattle.readers.proofs.Finish.{ended}
 use Rattle.decode_74.specs.steps.Op76.{immediate76}
 use Rattle.decode_74.proofs.op76.immediate_76.Statement.{statement}

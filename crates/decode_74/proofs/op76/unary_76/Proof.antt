@@ -1,10 +1,10 @@
 -- `decode_74::op76::unary_76` meets its contract.
 -- Assumes nothing.
 use mathlib.Core.Path.{refl}
-use borrow.Author.Needs.{needs}
 use borrow.Author.Tests.{eq-eqb, ne-eqb}
-use Rattle.rows.specs.Rows.{row}
+use borrow.Author.Needs.{needs}
 use Rattle.rows.specs.Run.{runRow}
+use Rattle.rows.specs.Rows.{row}
 use Rattle.readers.proofs.Finish.{ended}
 use Rattle.decode_74.specs.steps.Op76.{unary76}
 use Rattle.decode_74.proofs.op76.unary_76.Statement.{statement}

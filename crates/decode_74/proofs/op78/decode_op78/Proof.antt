@@ -3,13 +3,13 @@
 use mathlib.Core.Path.{refl, sym, _∙_}
 use native.Mathlib.Omega.{arith}
 use borrow.Author.Needs.{needs}
-use Rattle.rows.specs.Rows.{row, row78}
 use Rattle.rows.specs.Row.{InvalidOperand}
+use Rattle.rows.specs.Rows.{row, row78}
 use Rattle.rows.specs.Run.{runRow}
 use Rattle.rows.proofs.Steps.{ends, goes, stops}
-use Rattle.readers.proofs.Finish.{ended}
 use Rattle.readers.specs.steps.Width.{widthOf}
 use Rattle.readers.proofs.Nibble.{named-high}
+use Rattle.readers.proofs.Finish.{ended}
 use Rattle.decode_74.proofs.op78.decode_op78.Statement.{statement}
 use Rattle.decode_74.proofs.op78.decode_op78.Tie as tie
 

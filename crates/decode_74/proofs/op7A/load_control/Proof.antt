@@ -3,10 +3,10 @@
 use mathlib.Core.Path.{refl}
 use borrow.Author.Tests.{eq-eqb, ne-eqb}
 use borrow.Author.Needs.{needs}
+use Rattle.rows.specs.Rows.{row}
 use Rattle.rows.proofs.Steps.{ends, goes, stops, done}
 use Rattle.rows.specs.Run.{runRow}
 use Rattle.rows.specs.Row.{InvalidOperand}
-use Rattle.rows.specs.Rows.{row}
 use Rattle.decode_74.proofs.op7A.load_control.Statement.{statement}
 use Rattle.decode_74.proofs.op7A.load_control.Tie as tie
 

@@ -1,12 +1,12 @@
 -- `decode_74::op7B::store_control` meets its contract.
 -- Assumes nothing.
 use mathlib.Core.Path.{refl}
-use borrow.Author.Needs.{needs}
 use borrow.Author.Tests.{eq-eqb, ne-eqb}
+use borrow.Author.Needs.{needs}
 use Rattle.rows.proofs.Steps.{stops}
-use Rattle.rows.specs.Rows.{row}
 use Rattle.rows.specs.Row.{InvalidOperand}
 use Rattle.rows.specs.Run.{runRow}
+use Rattle.rows.specs.Rows.{row}
 use Rattle.readers.proofs.Finish.{ended}
 use Rattle.decode_74.proofs.op7B.store_control.Statement.{statement}
 use Rattle.decode_74.proofs.op7B.store_control.Tie as tie

@@ -6,9 +6,9 @@ use native.Mathlib.Omega.{arith}
 use borrow.Author.Tests.{le-leb, lt-leb, ne-eqb}
 use borrow.Author.Needs.{needs}
 use Rattle.rows.proofs.Steps.{ends, goes, stops, done}
-use Rattle.rows.specs.Run.{runRow}
-use Rattle.rows.specs.Rows.{row, row7E}
 use Rattle.rows.specs.Row.{InvalidOpcode}
+use Rattle.rows.specs.Rows.{row, row7E}
+use Rattle.rows.specs.Run.{runRow}
 use Rattle.decode_74.proofs.Table7E.{table7E, tables7E, operand-named}
 use Rattle.decode_74.proofs.op7E.decode_op7E.Statement.{statement}
 use Rattle.decode_74.proofs.op7E.decode_op7E.Tie as tie

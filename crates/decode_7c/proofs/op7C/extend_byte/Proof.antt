@@ -3,9 +3,9 @@
 use Prim.Native.Nat.{_%_}
 use mathlib.Core.Path.{refl, sym, _∙_}
 use borrow.Author.Needs.{needs}
-use Rattle.rows.specs.Rows.{row}
 use Rattle.rows.specs.Row.{InvalidOperand}
 use Rattle.rows.specs.Run.{runRow}
+use Rattle.rows.specs.Rows.{row}
 use Rattle.rows.proofs.Steps.{stops}
 use Rattle.readers.proofs.Finish.{ended}
 use Rattle.decode_7c.proofs.Table7C.{no-exts}
@@ -14,13 +14,14 @@ use Rattle.decode_7c.proofs.op7C.extend_byte.Tie as tie
 
 returns : tie.Need-returns
 unfolding runRow row
-returns c = let s = c .before .before .before in rw (sym (no-exts (s .args .b % 16) (search needs)) ∙ c .before .if1 .taken) (stops InvalidOperand _ _ _ _ (c .refuse .ensures))
+returns c = let s = c .before .before .before .before in rw (sym (no-exts (s .args .b % 16) (search needs)) ∙ sym (c .before .before .has .ensures) ∙ c .before .if1 .taken)
+    (stops InvalidOperand _ _ _ _ (c .refuse .ensures))
 
 returns-2 : tie.Need-returns-2
 unfolding runRow row
-returns-2 c = let s = c .before .before .before .before .before in
-    rw (sym (no-exts (s .args .b % 16) (search needs)) ∙ c .before .before .before .if1 .left)
+returns-2 c = let s = c .before .before .before .before .before .before in
+    rw (sym (no-exts (s .args .b % 16) (search needs)) ∙ sym (c .before .before .before .before .has .ensures) ∙ c .before .before .before .if1 .left)
     (ended _ _ _ _ (c .before .general .ensures) (c .finish .ensures) refl refl refl (c .before .before .general-name .ensures) refl refl)
 
 pub extend-byte-spec : {M : Type 1} → statement M
-extend-byte-spec = tie.close (tie.spec (λ c κs. search needs) returns (λ c κs. search needs) (λ c κs. search needs) (λ c κs. search needs) returns-2)
+extend-byte-spec = tie.close (tie.spec (λ c κs. search needs) (λ c κs. search needs) returns (λ c κs. search needs) (λ c κs. search needs) (λ c κs. search needs) returns-2)

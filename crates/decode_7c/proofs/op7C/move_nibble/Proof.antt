@@ -3,8 +3,8 @@
 use mathlib.Core.Path.{refl}
 use borrow.Author.Tests.{lt-ltb, le-ltb}
 use borrow.Author.Needs.{needs}
-use Rattle.rows.specs.Rows.{row}
 use Rattle.rows.specs.Run.{runRow}
+use Rattle.rows.specs.Rows.{row}
 use Rattle.readers.proofs.Finish.{ended}
 use Rattle.decode_7c.specs.steps.Op7C.{nibble}
 use Rattle.decode_7c.proofs.op7C.move_nibble.Statement.{statement}

@@ -4,10 +4,10 @@ use Prim.Native.Nat.{_%_}
 use mathlib.Core.Path.{refl, sym, _∙_}
 use borrow.Author.Tests.{lt-ltb, le-ltb}
 use borrow.Author.Needs.{needs}
-use Rattle.rows.specs.Row.{InvalidOpcode}
-use Rattle.rows.proofs.Steps.{stops}
-use Rattle.rows.specs.Rows.{row}
 use Rattle.rows.specs.Run.{runRow}
+use Rattle.rows.specs.Rows.{row}
+use Rattle.rows.proofs.Steps.{stops}
+use Rattle.rows.specs.Row.{InvalidOpcode}
 use Rattle.readers.proofs.Finish.{ended}
 use Rattle.decode_7c.proofs.Table7D.{conditional-jumps}
 use Rattle.decode_7c.proofs.op7D.jump.Statement.{statement}

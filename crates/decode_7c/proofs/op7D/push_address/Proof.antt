@@ -3,10 +3,10 @@
 use mathlib.Core.Path.{refl}
 use borrow.Author.Tests.{lt-ltb, le-ltb}
 use borrow.Author.Needs.{needs}
-use Rattle.rows.specs.Rows.{row}
-use Rattle.rows.proofs.Steps.{stops}
 use Rattle.rows.specs.Row.{InvalidOperand}
 use Rattle.rows.specs.Run.{runRow}
+use Rattle.rows.specs.Rows.{row}
+use Rattle.rows.proofs.Steps.{stops}
 use Rattle.readers.proofs.Finish.{ended}
 use Rattle.decode_7c.proofs.op7D.push_address.Statement.{statement}
 use Rattle.decode_7c.proofs.op7D.push_address.Tie as tie

@@ -3,12 +3,12 @@
 use mathlib.Core.Path.{refl}
 use borrow.Author.Tests.{eq-eqb, ne-eqb}
 use borrow.Author.Needs.{needs}
-use Rattle.rows.specs.Rows.{row, rowEBlow}
 use Rattle.rows.specs.Row.{InvalidOperand}
+use Rattle.rows.specs.Rows.{row, rowEBlow}
 use Rattle.rows.specs.Run.{runRow}
 use Rattle.rows.proofs.Steps.{stops}
-use Rattle.readers.proofs.Finish.{ended}
 use Rattle.readers.proofs.Nibble.{named-control}
+use Rattle.readers.proofs.Finish.{ended}
 use Rattle.decode_7c.proofs.opEB.load_control.Statement.{statement}
 use Rattle.decode_7c.proofs.opEB.load_control.Tie as tie
 

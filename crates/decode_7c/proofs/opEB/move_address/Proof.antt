@@ -6,8 +6,8 @@ use native.Mathlib.Omega.{arith}
 use borrow.Author.Tests.{lt-ltb}
 use borrow.Author.Needs.{needs}
 use Rattle.record.specs.declared.Width.the-variants.{W}
-use Rattle.rows.specs.Rows.{row}
 use Rattle.rows.specs.Run.{runRow}
+use Rattle.rows.specs.Rows.{row}
 use Rattle.readers.proofs.Nibble.{named-high}
 use Rattle.readers.proofs.Finish.{ended-before-none}
 use Rattle.decode_7c.proofs.opEB.move_address.Statement.{statement}

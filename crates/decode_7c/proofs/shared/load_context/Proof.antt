@@ -2,9 +2,9 @@
 -- Assumes nothing.
 use mathlib.Core.Path.{refl}
 use borrow.Author.Needs.{needs}
-use Rattle.rows.proofs.Steps.{ends, goes}
-use Rattle.rows.specs.Rows.{row}
 use Rattle.rows.specs.Run.{runRow}
+use Rattle.rows.specs.Rows.{row}
+use Rattle.rows.proofs.Steps.{ends, goes}
 use Rattle.readers.proofs.Finish.{ended}
 use Rattle.decode_7c.proofs.shared.load_context.Statement.{statement}
 use Rattle.decode_7c.proofs.shared.load_context.Tie as tie

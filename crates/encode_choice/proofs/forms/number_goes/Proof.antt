@@ -9,8 +9,8 @@ use Rattle.encode_choice.specs.steps.Forms.{numberLimit}
 use Rattle.encode_choice.proofs.forms.number_goes.Statement.{statement}
 use Rattle.encode_choice.proofs.forms.number_goes.Tie as tie
 
-limited : (t : tie.After-same) {b : Bool} → t .same .result ≡ b → ltb (t .before .args .q .number) (pick b 16 64) ≡ ltb (t .before .args .q .number) (numberLimit (t .before .args .q .op0))
-limited t e = ap (λ b. ltb (t .before .args .q .number) (pick b 16 64)) (sym (sym (t .same .ensures) ∙ e))
+limited : (t : tie.After-same-name) {b : Bool} → t .same-name .result ≡ b → ltb (t .before .args .q .number) (pick b 16 64) ≡ ltb (t .before .args .q .number) (numberLimit (t .before .args .q .op0))
+limited t e = ap (λ b. ltb (t .before .args .q .number) (pick b 16 64)) (sym (sym (t .same-name .ensures) ∙ e))
 
 returns : tie.Need-returns
 returns c = limited (c .before .before) (c .before .if1 .taken)

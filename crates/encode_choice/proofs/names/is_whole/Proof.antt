@@ -9,14 +9,14 @@ use Rattle.encode_choice.proofs.names.is_whole.Tie as tie
 returns : tie.Need-returns
 returns c =
     let args = c .before .before .before .before .args in
-    whole-first (args .w) (args .o) (sym (c .before .before .before .width-number .ensures) ∙ c .before .before .if1 .taken) (sym (c .before .same .ensures) ∙ c .if2 .taken)
+    whole-first (args .w) (args .o) (sym (c .before .before .before .width-number .ensures) ∙ c .before .before .if1 .taken) (sym (c .before .same-name .ensures) ∙ c .if2 .taken)
 
 returns-2 : tie.Need-returns-2
 returns-2 c =
     let t = c .before .before in
     let u = t .before in
     let args = u .before .before .args in
-    c .same2 .ensures ∙ whole-second (args .w) (args .o) (sym (u .before .width-number .ensures) ∙ u .if1 .taken) (sym (t .same .ensures) ∙ c .before .if2 .left)
+    c .same-name2 .ensures ∙ whole-second (args .w) (args .o) (sym (u .before .width-number .ensures) ∙ u .if1 .taken) (sym (t .same-name .ensures) ∙ c .before .if2 .left)
 
 returns-3 : tie.Need-returns-3
 returns-3 c = whole-none (c .before .before .args .w) (c .before .before .args .o) (λ e. c .if1 .left (c .before .width-number .ensures ∙ e))

@@ -1,4 +1,5 @@
--- `line::names::opcode_word` meets its contract: an arm is told its name, and its number packs the name's characters.
+-- `line::names::opcode_word` meets its contract: an arm is told its name, and its numbers pack the name's characters.
+-- Made by scripts/tables/make-names from the enums of crates/record/src/lib.rt.
 -- Assumes nothing.
 use mathlib.Core.Path.{_≡_, sym, ap}
 use borrow.Author.Needs.{needs}

@@ -8,7 +8,6 @@ use Rattle.record.specs.declared.Operand.{Operand}
 use Rattle.record.specs.declared.Record.{Record}
 use Rattle.line.specs.Line.{digitsOf, equals, numberText}
 use Rattle.line.specs.steps.Packed.{pack}
-use Rattle.line.proofs.Spelling.{digits-few}
 use Rattle.line.proofs.words.words_of.Statement.{statement}
 use Rattle.line.proofs.words.words_of.Tie as tie
 
@@ -32,33 +31,36 @@ the-record t = first t .before .args .r
 number : (a : Operand) {n v w u : ℕ} → n ≡ digitsOf a → v ≡ u → w ≡ pack (equals n v) → w ≡ pack (numberText a u)
 number a d e h = h ∙ (λ j. pack (equals (d j) (e j)))
 
-number-word-requires : tie.Need-number-word-requires
-number-word-requires c κs = let t = c .before in rw (first t .operand-shown .ensures .2) (digits-few (the-record t .op0))
+-- the states at which the numbers' words are made
+abbrev one : tie.After-number-word → tie.After-size-word
+one t = t .before .before .before
 
-number-word-requires-2 : tie.Need-number-word-requires-2
-number-word-requires-2 c κs = let t = c .before .before .before in rw (second t .operand-shown2 .ensures .2) (digits-few (the-record t .op1))
+abbrev two : tie.After-number-word2 → tie.After-number-word
+two t = t .before .before .before
 
-number-word-requires-3 : tie.Need-number-word-requires-3
-number-word-requires-3 c κs = let t = c .before .before .before .before .before in rw (third t .operand-shown3 .ensures .2) (digits-few (the-record t .op2))
+abbrev three : tie.After-number-word3 → tie.After-number-word2
+three t = t .before .before .before
 
 returns : tie.Need-returns
 returns c =
-    let w = c .before .before .before .before in
-    let t = w .before .before in
+    let y = three c in
+    let x = two y in
+    let t = one x in
     let r = the-record t in
     let n = looked t .numbers-of .ensures in
     let a = first t .operand-shown .ensures in
     let b = second t .operand-shown2 .ensures in
     let d = third t .operand-shown3 .ensures in
-    let x = number (r .op0) (a .2) (n .0) (w .number-word .ensures) in
-    let y = number (r .op1) (b .2) (n .1) (c .before .before .number-word2 .ensures) in
-    let z = number (r .op2) (d .2) (n .2) (c .number-word3 .ensures) in
+    let number0 = number (r .op0) (x .before .before .digits-of .ensures .0) (n .0) (x .number-word .ensures) in
+    let number1 = number (r .op1) (y .before .before .digits-of2 .ensures .0) (n .1) (y .number-word2 .ensures) in
+    let number2 = number (r .op2) (c .before .before .digits-of3 .ensures .0) (n .2) (c .number-word3 .ensures) in
     λ j. first t .before .args .first ∷ first t .before .args .second
     ∷ t .before .before .width-word .ensures j ∷ t .before .opcode-word .ensures j ∷ t .size-word .ensures j
-    ∷ a .0 j ∷ a .1 j ∷ x j ∷ b .0 j ∷ b .1 j ∷ y j ∷ d .0 j ∷ d .1 j ∷ z j ∷ []
+    ∷ a .0 j ∷ a .1 j ∷ number0 j ∷ b .0 j ∷ b .1 j ∷ number1 j ∷ d .0 j ∷ d .1 j ∷ number2 j ∷ []
 
 pub words-of-spec : {M : Type 1} → statement M
 words-of-spec =
     tie.close
     (tie.spec (λ c κs. search needs) (λ c κs. search needs) (λ c κs. search needs) (λ c κs. search needs) (λ c κs. search needs) (λ c κs. search needs) (λ c κs. search needs)
-    (λ c. search needs) number-word-requires (λ c. search needs) number-word-requires-2 (λ c. search needs) number-word-requires-3 returns)
+    (λ c κs. search needs) (λ c. search needs) (λ c κs. search needs) (λ c κs. search needs) (λ c. search needs) (λ c κs. search needs)
+    (λ c κs. search needs) (λ c. search needs) (λ c κs. search needs) returns)

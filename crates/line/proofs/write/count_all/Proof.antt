@@ -25,4 +25,7 @@ returns : tie.Need-returns Inv-loop μ-loop
 returns c = omega (arith, ap length (text-end (c .before .loop .k) (c .before .before .before .args .words .now) (omega arith)))
 
 pub count-all-spec : {M : Type 1} → statement M
-count-all-spec = tie.close (tie.spec Inv-loop μ-loop (λ c. search needs) (λ c. search needs) (λ c. search needs) (λ c κs. search needs) (λ c. search needs) (λ c. search needs) (λ c. search needs) loop-again returns)
+count-all-spec =
+    tie.close
+    (tie.spec Inv-loop μ-loop (λ c. search needs) (λ c. search needs) (λ c. search needs) (λ c κs. search needs) (λ c. search needs) (λ c. search needs) (λ c. search needs)
+    loop-again returns)

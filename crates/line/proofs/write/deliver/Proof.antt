@@ -2,7 +2,7 @@
 -- Assumes nothing.
 use native.Mathlib.Omega.{arith}
 use borrow.Author.Needs.{needs}
-use Rattle.line.proofs.Over.{no-room, room}
+use Rattle.line.proofs.Room.{no-room, room}
 use Rattle.line.proofs.write.deliver.Statement.{statement}
 use Rattle.line.proofs.write.deliver.Tie as tie
 

@@ -5,17 +5,17 @@ use mathlib.Core.Path.{_≡_, refl, sym, ap, _∙_}
 use native.Mathlib.Omega.{arith}
 use lib.ListN.{length, getD, drop, length-drop}
 use borrow.Author.Needs.{needs}
-use Rattle.line.specs.Left.{over}
+use Rattle.laws.specs.Over.{over, put}
 use Rattle.line.specs.steps.Packed.{chars, text}
 use Rattle.line.proofs.Packing.{text-at, text-length, text-end}
 use Rattle.laws.proofs.Rest.{rest}
-use Rattle.line.proofs.Over.{from, from-none, lent-on, lent-length}
+use Rattle.laws.proofs.Over.{put-none, written-on, written-length}
 use Rattle.line.proofs.write.write_all.Statement.{statement}
 use Rattle.line.proofs.write.write_all.Tie as tie
 
 abbrev Inv-loop : tie.InvT-loop
 Inv-loop words out₀ at₀ next₀ out at next =
-    (next ≤ length words) × (length out ≡ length out₀) × (at + length (text (drop next words)) ≡ length (text words)) × (from at (text (drop next words)) out ≡ over (text words) out₀)
+    (next ≤ length words) × (length out ≡ length out₀) × (at + length (text (drop next words)) ≡ length (text words)) × (put at (text (drop next words)) out ≡ over (text words) out₀)
 
 abbrev μ-loop : tie.MeasureT-loop
 μ-loop words out₀ at₀ next₀ out at next = length words - next
@@ -37,23 +37,25 @@ write-word-requires c κs =
 
 add-at : tie.Need-add-at Inv-loop μ-loop
 add-at c =
-    let l = c .before .before .before .before .before .before .loop in
-    let start = c .before .before .before .before .before .before .before .before .before in
+    let at = c .before .before .before .before .before .before in
+    let l = at .loop in
+    let start = at .before .before .before in
     omega (arith, start .pre, text-length (l .next) (start .args .words .now) (omega arith))
 
 loop-again : tie.Need-loop-again Inv-loop μ-loop
 loop-again c =
-    let l = c .before .before .before .before .before .before .loop in
-    let start = c .before .before .before .before .before .before .before .before .before in
+    let at = c .before .before .before .before .before .before in
+    let l = at .loop in
+    let start = at .before .before .before in
     let ws = start .args .words .now in
     let w = c .before .before .write-word in
     let n = text-length (l .next) ws (omega arith) in
     let zs = text (drop (l .next + 1) ws) in (
       omega arith,
-      lent-length (l .at) (l .out) (chars (getD ws (l .next) 0)) (omega (arith, start .pre)) (w .ensures .1) ∙ l .inv .1,
+      written-length (l .at) (l .out) (chars (getD ws (l .next) 0)) (omega (arith, start .pre)) (w .ensures .1) ∙ l .inv .1,
       omega (arith, w .ensures .0),
-      sym (lent-on (l .at) (l .out) (chars (getD ws (l .next) 0)) (omega (arith, start .pre)) (w .ensures .1) zs (w .ensures .0))
-          ∙ ap (λ xs. from (l .at) xs (l .out)) (sym (text-at (l .next) ws (omega arith))) ∙ l .inv .3,
+      sym (written-on (l .at) (l .out) (chars (getD ws (l .next) 0)) (omega (arith, start .pre)) (w .ensures .1) zs (w .ensures .0))
+          ∙ ap (λ xs. put (l .at) xs (l .out)) (sym (text-at (l .next) ws (omega arith))) ∙ l .inv .3,
     )
 
 same-length : tie.Need-same-length Inv-loop μ-loop
@@ -63,7 +65,10 @@ returns : tie.Need-returns Inv-loop μ-loop
 returns c =
     let l = c .before .loop in
     let e = text-end (l .next) (c .before .before .before .before .args .words .now) (omega arith) in
-    sym (from-none (l .at) (l .out)) ∙ ap (λ xs. from (l .at) xs (l .out)) (sym e) ∙ l .inv .3
+    sym (put-none (l .at) (l .out)) ∙ ap (λ xs. put (l .at) xs (l .out)) (sym e) ∙ l .inv .3
 
 pub write-all-spec : {M : Type 1} → statement M
-write-all-spec = tie.close (tie.spec Inv-loop μ-loop loop-holds (λ c. search needs) (λ c. search needs) sub-write-word part-write-word-start (λ c. search needs) write-word-requires add-at (λ c. search needs) (λ c. search needs) loop-again same-length returns)
+write-all-spec =
+    tie.close
+    (tie.spec Inv-loop μ-loop loop-holds (λ c. search needs) (λ c. search needs) sub-write-word part-write-word-start (λ c. search needs) write-word-requires add-at
+    (λ c. search needs) (λ c. search needs) loop-again same-length returns)

@@ -16,4 +16,7 @@ nothing : tie.Need-returns-3
 nothing c = rw (c .enum-told2 .given .1) (record { same = refl; inside = search needs; onward = λ h e. absurd (false≢true e) })
 
 pub fill-spec : {M : Type 1} → statement M
-fill-spec = tie.close (tie.spec (λ c. search needs) (λ c κs. search needs) (λ c. search needs) (λ c κs. search needs) (λ c. search needs) (λ c. search needs) too-long (λ c. search needs) lines nothing)
+fill-spec =
+    tie.close
+    (tie.spec (λ c. search needs) (λ c κs. search needs) (λ c. search needs) (λ c κs. search needs) (λ c. search needs) (λ c. search needs) too-long
+    (λ c. search needs) lines nothing)

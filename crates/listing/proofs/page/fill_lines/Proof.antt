@@ -15,7 +15,7 @@ use Rattle.sweep.specs.declared.step.Step.the-variants.{End, Accepted, Refused}
 use Rattle.sweep.specs.Walk.{stop, stopping, onward}
 use Rattle.sweep.proofs.Walk.{Told, told, by-rows}
 use Rattle.sweep.proofs.step.Step as declared
-use Rattle.line.proofs.Over.{lent-length}
+use Rattle.laws.proofs.Over.{written-length}
 use Rattle.listing.specs.Listing.{lineAt, listed}
 use Rattle.listing.proofs.Lines.{line-room, from-here}
 use Rattle.listing.proofs.Pages.{line-more, line-last}
@@ -74,14 +74,15 @@ loop-again c =
     let p = c .before .before .before .before .before in
     let l = turn p .loop in
     let n = p .put-line .ensures in
-    let k = lent-length (l .at) (l .out) (line p) (omega (arith, room p)) (n .1) in
+    let k = written-length (l .at) (l .out) (line p) (omega (arith, room p)) (n .1) in
     let t = lies p (c .before .here .given .1) in (
       omega (arith, n .0, room p),
       k ∙ l .inv .1,
       omega arith,
       omega arith,
       omega (arith, n .0, room p),
-      line-more (l .at) (l .out) (line p) (omega (arith, room p)) n _ (from-here (image p) (l .place) (p .before .before .step-at .ensures) (ap (onward stopping (l .place)) (c .before .here .given .1))) (l .inv .5),
+      line-more (l .at) (l .out) (line p) (omega (arith, room p)) n _
+          (from-here (image p) (l .place) (p .before .before .step-at .ensures) (ap (onward stopping (l .place)) (c .before .here .given .1))) (l .inv .5),
     )
 
 -- a walk stops at the steps that are not accepted
@@ -95,7 +96,7 @@ same-length : tie.Need-same-length Inv-loop μ-loop
 same-length c =
     let p = c .before .before .before in
     let l = turn p .loop in
-    lent-length (l .at) (l .out) (line p) (omega (arith, room p)) (p .put-line .ensures .1) ∙ l .inv .1
+    written-length (l .at) (l .out) (line p) (omega (arith, room p)) (p .put-line .ensures .1) ∙ l .inv .1
 
 returns : tie.Need-returns Inv-loop μ-loop
 returns c =
@@ -103,7 +104,8 @@ returns c =
     let l = turn p .loop in
     let n = p .put-line .ensures in
     record {
-      same = line-last (l .at) (l .out) (line p) (omega (arith, room p)) n (from-here (image p) (l .place) (p .before .before .step-at .ensures) (ends (l .place) (here p) (c .match .keys2))) (l .inv .5);
+      same = line-last (l .at) (l .out) (line p) (omega (arith, room p)) n
+          (from-here (image p) (l .place) (p .before .before .step-at .ensures) (ends (l .place) (here p) (c .match .keys2))) (l .inv .5);
       inside = omega (arith, n .0, room p);
       onward = λ h e. omega arith;
     }

@@ -5,7 +5,7 @@ use mathlib.Core.Bool.{Bool, true, false, not}
 use borrow.Author.Needs.{needs}
 use Rattle.laws.specs.Choice.{pick}
 use Rattle.record.specs.declared.Operand.the-variants.{«Disp8_SP»}
-use Rattle.record.specs.Same.{sameName, shared, valueOf}
+use Rattle.record.specs.Same.{sameName, fieldOf, shared, valueOf}
 use Rattle.record.proofs.fields.numbers_of.Statement.{statement}
 use Rattle.record.proofs.fields.numbers_of.Tie as tie
 
@@ -17,17 +17,16 @@ returns : tie.Need-returns
 returns c =
     let second = c .before .before in
     let first = second .before .before in
-    let tests = first .before .before in
-    let r = tests .before .before .before .args .r in
-    let own0 = tests .before .before .field-of .ensures in
-    let own1 = tests .before .field-of2 .ensures in
-    let on-stack = tests .same-name .ensures in
-    let field0 = first .before .shared-field .ensures ∙ (λ j. shared (own0 j) (own1 j) ((ap not on-stack ∙ flipped (sameName (r .op0) «Disp8_SP»)) j)) in
-    let field1 = second .before .shared-field2 .ensures ∙ (λ j. shared (own1 j) (own0 j) (on-stack j)) in (
+    let test = first .before .before in
+    let r = test .before .args .r in
+    let on-stack = test .same-name .ensures in
+    let field0 = first .before .shared-field .ensures ∙ ap (shared (fieldOf (r .op0)) (fieldOf (r .op1))) (ap not on-stack ∙ flipped (sameName (r .op0) «Disp8_SP»)) in
+    let field1 = second .before .shared-field2 .ensures ∙ ap (shared (fieldOf (r .op1)) (fieldOf (r .op0))) on-stack in (
       first .value-of .ensures ∙ ap (λ f. valueOf f r) field0,
       second .value-of2 .ensures ∙ ap (λ f. valueOf f r) field1,
-      c .value-of3 .ensures ∙ ap (λ f. valueOf f r) (c .before .field-of3 .ensures),
+      c .value-of3 .ensures ∙ ap (λ f. valueOf f r) (c .before .field-of .ensures),
     )
 
 pub numbers-of-spec : {M : Type 1} → statement M
-numbers-of-spec = tie.close (tie.spec (λ c κs. search needs) (λ c κs. search needs) (λ c κs. search needs) (λ c κs. search needs) (λ c κs. search needs) (λ c κs. search needs) (λ c κs. search needs) (λ c κs. search needs) (λ c κs. search needs) returns)
+numbers-of-spec =
+    tie.close (tie.spec (λ c κs. search needs) (λ c κs. search needs) (λ c κs. search needs) (λ c κs. search needs) (λ c κs. search needs) (λ c κs. search needs) (λ c κs. search needs) returns)

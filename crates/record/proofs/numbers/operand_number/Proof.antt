@@ -1,4 +1,5 @@
 -- `record::numbers::operand_number` meets its contract: an arm is told its name, and the name has its number.
+-- Made by scripts/tables/make-names from the enums of crates/record/src/lib.rt.
 -- Assumes nothing.
 use mathlib.Core.Path.{_≡_, sym, ap}
 use borrow.Author.Needs.{needs}

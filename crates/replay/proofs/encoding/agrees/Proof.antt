@@ -44,4 +44,6 @@ returns-3 c =
     )
 
 pub agrees-spec : {M : Type 1} → statement M
-agrees-spec = tie.close (tie.spec (λ c κs. search needs) (λ c. search needs) (λ c. search needs) (λ c κs. search needs) (λ c κs. search needs) (λ c. search needs) returns (λ c κs. search needs) (λ c. search needs) returns-2 (λ c. search needs) read-bytes-requires (λ c. search needs) (λ c. search needs) (λ c κs. search needs) returns-3)
+agrees-spec = tie.close (tie.spec
+    (λ c κs. search needs) (λ c. search needs) (λ c. search needs) (λ c κs. search needs) (λ c κs. search needs) (λ c. search needs) returns
+    (λ c κs. search needs) (λ c. search needs) returns-2 (λ c. search needs) read-bytes-requires (λ c. search needs) (λ c. search needs) (λ c κs. search needs) returns-3)

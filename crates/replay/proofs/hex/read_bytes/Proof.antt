@@ -55,4 +55,5 @@ returns c =
     sym (take-length (l .out)) ∙ ap (λ n. take n (l .out)) (sym all) ∙ l .inv .2 ∙ ap (λ n. bytesAt n text at) (all ∙ l .inv .1)
 
 pub read-bytes-spec : {M : Type 1} → statement M
-read-bytes-spec = tie.close (tie.spec Inv-loop μ-loop loop-holds (λ c. omega arith) (λ c. omega arith) (λ c κs. omega arith) (λ c. search needs) (λ c. search needs) (λ c. rw length-set (omega arith)) loop-again same-length returns)
+read-bytes-spec = tie.close (tie.spec Inv-loop μ-loop loop-holds
+    (λ c. omega arith) (λ c. omega arith) (λ c κs. omega arith) (λ c. search needs) (λ c. search needs) (λ c. rw length-set (omega arith)) loop-again same-length returns)

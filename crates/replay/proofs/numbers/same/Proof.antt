@@ -35,8 +35,32 @@ returns-9 c = refuted (λ e. c .if9 .taken (ap (λ n. n .dispabs) e))
 returns-10 : tie.Need-returns-10
 returns-10 c = refuted (λ e. c .if10 .taken (ap (λ n. n .length) e))
 
+-- each test was passed before the next one
 returns-11 : tie.Need-returns-11
-returns-11 c = (λ _ i. record { refusal = c .before .before .before .before .before .before .before .before .before .before .before .before .before .before .before .before .before .before .before .before .before .before .before .before .before .before .before .if1 .left i; taken = c .before .before .before .before .before .before .before .before .before .before .before .before .before .before .before .before .before .before .before .before .before .before .before .before .if2 .left i; opcode = c .before .before .before .before .before .before .before .before .before .before .before .before .before .before .before .before .before .before .before .before .before .if3 .left i; size = c .before .before .before .before .before .before .before .before .before .before .before .before .before .before .before .before .before .before .if4 .left i; op0 = c .before .before .before .before .before .before .before .before .before .before .before .before .before .before .before .if5 .left i; op1 = c .before .before .before .before .before .before .before .before .before .before .before .before .if6 .left i; op2 = c .before .before .before .before .before .before .before .before .before .if7 .left i; «imm_wide» = c .before .before .before .before .before .before .if8 .left i; dispabs = c .before .before .before .if9 .left i; length = c .if10 .left i }, λ _. refl)
+returns-11 c =
+    let test9 = c .before .before .before in
+    let test8 = test9 .before .before .before in
+    let test7 = test8 .before .before .before in
+    let test6 = test7 .before .before .before in
+    let test5 = test6 .before .before .before in
+    let test4 = test5 .before .before .before in
+    let test3 = test4 .before .before .before in
+    let test2 = test3 .before .before .before in
+    let test1 = test2 .before .before .before in (
+      λ _ i. record {
+        refusal = test1 .if1 .left i;
+        taken = test2 .if2 .left i;
+        opcode = test3 .if3 .left i;
+        size = test4 .if4 .left i;
+        op0 = test5 .if5 .left i;
+        op1 = test6 .if6 .left i;
+        op2 = test7 .if7 .left i;
+        «imm_wide» = test8 .if8 .left i;
+        dispabs = test9 .if9 .left i;
+        length = c .if10 .left i;
+      },
+      λ _. refl,
+    )
 
 pub same-spec : {M : Type 1} → statement M
 same-spec = tie.close (tie.spec returns returns-2 returns-3 returns-4 returns-5 returns-6 returns-7 returns-8 returns-9 returns-10 returns-11)

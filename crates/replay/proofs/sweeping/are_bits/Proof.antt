@@ -39,7 +39,8 @@ returns-3 : tie.Need-returns-3 Inv-loop μ-loop
 returns-3 c =
     let turn = c .before .before .before .before .before in
     let l = turn .before .loop in
-    refuted (λ b. c .if4 .taken (there _ (l .rest) (passed (l .place) (turn .loop-test .taken)) (c .before .before .before .before .if1 .taken) {left = l .left} (omega arith) (omega arith) (l .inv .1 b)))
+    refuted (λ b. c .if4 .taken (there _ (l .rest) (passed (l .place) (turn .loop-test .taken))
+    (c .before .before .before .before .if1 .taken) {left = l .left} (omega arith) (omega arith) (l .inv .1 b)))
 
 loop-again : tie.Need-loop-again Inv-loop μ-loop
 loop-again c =
@@ -63,4 +64,5 @@ returns-4 c =
     (λ e. l .inv .2 (end .0 e), λ b. end .1 (l .inv .1 b))
 
 pub are-bits-spec : {M : Type 1} → statement M
-are-bits-spec = tie.close (tie.spec Inv-loop μ-loop loop-holds (λ c. search needs) returns (λ c. search needs) returns-2 (λ c. search needs) (λ c. search needs) returns-3 (λ c. search needs) loop-again returns-4)
+are-bits-spec = tie.close (tie.spec Inv-loop μ-loop loop-holds
+    (λ c. search needs) returns (λ c. search needs) returns-2 (λ c. search needs) (λ c. search needs) returns-3 (λ c. search needs) loop-again returns-4)

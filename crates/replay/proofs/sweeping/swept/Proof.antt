@@ -20,4 +20,5 @@ returns : tie.Need-returns
 returns c = rw (← c .before .before .before .before .before .before .before .read-bytes .ensures, ← c .before .before .before .before .before .byte-at .ensures .0) (c .before .before .sweep .ensures)
 
 pub swept-spec : {M : Type 1} → statement M
-swept-spec = tie.close (tie.spec (λ c. search needs) read-bytes-requires (λ c κs. search needs) (λ c. search needs) array-share-prefix-bytes slice-aggregate-sweep (λ c κs. search needs) (λ c. search needs) returns)
+swept-spec = tie.close (tie.spec
+    (λ c. search needs) read-bytes-requires (λ c κs. search needs) (λ c. search needs) array-share-prefix-bytes slice-aggregate-sweep (λ c κs. search needs) (λ c. search needs) returns)

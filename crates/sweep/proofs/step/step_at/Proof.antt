@@ -1,6 +1,8 @@
 -- `sweep::step::step_at` meets its contract.
 -- Assumes nothing.
 use mathlib.Core.Path.{_≡_, ap, _∙_}
+use native.Mathlib.Omega.{arith}
+use lib.ListN.{length}
 use borrow.Author.Needs.{needs}
 use borrow.Author.Tests.{le-leb, lt-leb, eq-eqb, ne-eqb}
 use Rattle.record.specs.declared.Answer.{Answer}
@@ -11,7 +13,7 @@ use Rattle.sweep.proofs.step.step_at.Tie as tie
 
 returns : tie.Need-returns
 unfolding stepAt
-returns c = rw (le-leb _ _ (c .if1 .taken))
+returns c = let start = c .before .before in rw (le-leb (length (start .args .image .now)) (start .args .place) (omega arith))
 
 refused : (x : Answer) → (x .refusal ≡ 0 → ⊥) → Refused (x .refusal) (x .taken) ≡ answered x
 refused x h = rw (ne-eqb _ 0 h)

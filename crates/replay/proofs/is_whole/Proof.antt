@@ -1,0 +1,19 @@
+-- `replay::is_whole` meets its contract.
+-- Assumes nothing.
+use borrow.Author.Needs.{needs}
+use Rattle.replay.proofs.is_whole.Statement.{statement}
+use Rattle.replay.proofs.is_whole.Tie as tie
+
+returns : tie.Need-returns
+returns c = rw (c .before .enum-told .given .1) (c .is-whole .ensures)
+
+returns-2 : tie.Need-returns-2
+returns-2 c = rw (c .before .enum-told2 .given .1) (c .is-whole2 .ensures)
+
+returns-3 : tie.Need-returns-3
+returns-3 c = rw (c .before .enum-told3 .given .1) (c .is-whole3 .ensures)
+
+pub is-whole-spec : {M : Type 1} → statement M
+is-whole-spec =
+    tie.close
+    (tie.spec (λ c. search needs) (λ c κs. search needs) (λ c. search needs) (λ c κs. search needs) (λ c. search needs) (λ c κs. search needs) returns returns-2 returns-3)

@@ -1,0 +1,32 @@
+-- `replay::kind::kind_of` meets its contract: the tests of the first character are the definition's.
+-- Assumes nothing.
+use Prim.Native.Nat.{ℕ}
+use mathlib.Core.Path.{_≡_, refl}
+use mathlib.Core.List.{List, [], _∷_}
+use native.Mathlib.Omega.{arith}
+use lib.ListN.{length}
+use borrow.Author.Needs.{needs}
+use borrow.Author.Tests.{eq-eqb, ne-eqb}
+use Rattle.replay.specs.declared.kind.Kind.the-variants.{Decodes}
+use Rattle.replay.specs.Line.{kindOf}
+use Rattle.replay.proofs.kind.kind_of.Statement.{statement}
+use Rattle.replay.proofs.kind.kind_of.Tie as tie
+
+empty : (s : List ℕ) → length s ≡ 0 → Decodes ≡ kindOf s
+empty [] e = refl
+empty (x ∷ xs) e = absurd (omega arith)
+
+returns : tie.Need-returns
+returns c = empty (c .before .args .line .now) (c .if1 .taken)
+
+returns-2 : tie.Need-returns-2
+returns-2 c = rw (eq-eqb _ 69 (c .if2 .taken))
+
+returns-3 : tie.Need-returns-3
+returns-3 c = rw (ne-eqb _ 69 (c .before .before .if2 .left), eq-eqb _ 83 (c .if3 .taken))
+
+returns-4 : tie.Need-returns-4
+returns-4 c = rw (ne-eqb _ 69 (c .before .before .if2 .left), ne-eqb _ 83 (c .if3 .left))
+
+pub kind-of-spec : {M : Type 1} → statement M
+kind-of-spec = tie.close (tie.spec returns (λ c. search needs) returns-2 (λ c. search needs) returns-3 returns-4)

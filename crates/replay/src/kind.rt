@@ -1,0 +1,25 @@
+// What a line of the stored list holds: a record to encode, an image to sweep, or bytes to decode.
+ghost use mathlib.Core.Path.{_≡_};
+ghost use Rattle.replay.specs.Line.{kindOf};
+
+pub enum Kind {
+    Encodes,
+    Sweeps,
+    Decodes,
+}
+
+// Its first character tells.
+pub(crate) fn kind_of(line: &[u8]) -> Kind
+    ensures { λ r. ⌜ r ≡ kindOf (now (line .entry)) ⌝ }
+{
+    if line.len() == 0 {
+        return Kind::Decodes;
+    }
+    if line[0] == b'E' {
+        return Kind::Encodes;
+    }
+    if line[0] == b'S' {
+        return Kind::Sweeps;
+    }
+    Kind::Decodes
+}
