@@ -4,17 +4,16 @@ use mathlib.Core.Path.{_≡_, sym, ap}
 use mathlib.Core.Bool.{Bool, true, false}
 use lib.Dec.{T, eqb}
 use borrow.Author.Tests.{eqb-true}
-use Rattle.laws.specs.Choice.{both, either}
+use Rattle.laws.specs.Choice.{both}
 use Rattle.laws.specs.Table.{every}
 use Rattle.record.specs.declared.Operand.{Operand}
-use Rattle.record.specs.declared.Operand.the-variants.{Imm4, Imm8}
 use Rattle.record.specs.declared.Width.{Width}
 use Rattle.record.specs.Numbers.{widthNo, operandNo}
 use Rattle.record.specs.Same.{sameName, among, baseOf}
 use Rattle.record.proofs.Apart.{operands, operands-apart}
 use Rattle.record.proofs.Arms.{every-operand, bit, bits-apart}
 use Rattle.encode_choice.specs.steps.Choose.{narrow}
-use Rattle.encode_choice.specs.steps.Coarse.{whole}
+use Rattle.encode_choice.specs.steps.Coarse.{inCode, whole}
 use Rattle.encode_rules.proofs.Bools.{so}
 
 -- a test at every name, however its number is
@@ -36,10 +35,7 @@ pub base-kept : (z s : Bool) (o : Operand) → baseOf (narrow (baseOf o) z s) �
 unfolding sameBase
 base-kept z s o = operands-apart _ _ (eqb-true _ _ (so _ (every-operand (sameBase z s) (always-base z s) o)))
 
--- Imm4 and Imm8 have no other name
-abbrev inCode : Operand → Bool
-inCode o = either (sameName o Imm4) (sameName o Imm8)
-
+-- a name whose number is part of the code has no other name
 sameInCode : Bool → Bool → Operand → Bool
 sameInCode z s o = eqb (bit (inCode (narrow o z s))) (bit (inCode o))
 

@@ -11,7 +11,6 @@ use Rattle.laws.specs.Choice.{pick, both, either}
 use Rattle.laws.proofs.Choice.{both-left, both-right}
 use Rattle.record.specs.declared.Key.{Key}
 use Rattle.record.specs.declared.Operand.{Operand}
-use Rattle.record.specs.declared.Operand.the-variants.{Imm4, Imm8}
 use Rattle.record.specs.declared.fields.Field.{Field}
 use Rattle.record.specs.Same.{sameName, among, fieldOf, baseOf}
 use Rattle.record.proofs.Arms.{every-operand}
@@ -23,7 +22,7 @@ use Rattle.encode_rules.specs.steps.Can.{exact, fits}
 use Rattle.encode_rules.specs.steps.Digits.{digits}
 use Rattle.encode_rules.specs.steps.Search.{condByte, disps, imms, conds, spell, live, aim}
 use Rattle.encode_rules.proofs.Bools.{so, both-last, picked}
-use Rattle.encode_choice.specs.steps.Coarse.{whole, wholeRow}
+use Rattle.encode_choice.specs.steps.Coarse.{inCode, whole, wholeRow}
 use Rattle.encode_choice.specs.steps.Coded.{isWide}
 use Rattle.encode_choice.specs.steps.Forms.{numberLimit}
 use Rattle.encode_choice.proofs.Formed.{meant}
@@ -143,7 +142,7 @@ module _ (a b : ℕ) (e : known a ≡ true) (l : b < 256) (v : live (document01 
       (λ t. ap (λ ts. hold ts k) (one-list (limitTags w) (limit1 w ∷ limit0 w ∷ []) t) ∙ ap (both y) (both-last x) ∙ both-turned y x)
 
 -- a number that is part of a code is below its name's limit
-pub part-small : (o : Operand) (v : ℕ) → either (sameName o Imm4) (sameName o Imm8) ≡ true → v < numberLimit o → ltb v (limitOf o) ≡ true
+pub part-small : (o : Operand) (v : ℕ) → inCode o ≡ true → v < numberLimit o → ltb v (limitOf o) ≡ true
 unfolding limitOf countOf sameName among
 part-small o v e h =
-    lt-ltb _ _ (lt-of-lt-of-le h (leb-true _ _ (so _ (picked _ _ (every-operand (λ o. pick (either (sameName o Imm4) (sameName o Imm8)) (leb (numberLimit o) (limitOf o)) true) tt o) e))))
+    lt-ltb _ _ (lt-of-lt-of-le h (leb-true _ _ (so _ (picked _ _ (every-operand (λ o. pick (inCode o) (leb (numberLimit o) (limitOf o)) true) tt o) e))))

@@ -6,7 +6,7 @@ use mathlib.Core.Bool.{Bool, true, false}
 use mathlib.Core.List.{List, [], _∷_}
 use lib.Dec.{T, ltb, eqb}
 use borrow.Author.Tests.{ltb-true, eqb-true}
-use Rattle.laws.specs.Choice.{pick, both, either}
+use Rattle.laws.specs.Choice.{pick, both}
 use Rattle.laws.specs.Range.{upto}
 use Rattle.laws.specs.Table.{every}
 use Rattle.laws.proofs.Choice.{both-left, both-right}
@@ -15,7 +15,6 @@ use Rattle.record.specs.declared.Opcode.{Opcode}
 use Rattle.record.specs.declared.Width.{Width}
 use Rattle.record.specs.declared.Width.the-variants.{None, B, W}
 use Rattle.record.specs.declared.Operand.{Operand}
-use Rattle.record.specs.declared.Operand.the-variants.{Imm4, Imm8}
 use Rattle.record.specs.Numbers.{sizeNo, widthNo, operandNo}
 use Rattle.record.specs.Same.{sameName, among, fieldOf, baseOf}
 use Rattle.record.proofs.Apart.{sizes-apart, widths-apart, opcodes, operands-apart}
@@ -27,7 +26,7 @@ use Rattle.encode_choice.specs.declared.Asked.{Asked}
 use Rattle.encode_rules.specs.steps.Search.{means, condByte, conds, live}
 use Rattle.encode_rules.specs.steps.Can.{named}
 use Rattle.encode_rules.specs.steps.Direct.{Choice, code, nothing, there}
-use Rattle.encode_choice.specs.steps.Coarse.{whole}
+use Rattle.encode_choice.specs.steps.Coarse.{inCode, whole}
 use Rattle.encode_choice.specs.steps.Forms.{formOf, at, names, sizeFor, numberLimit, goesWith}
 use Rattle.encode_choice.specs.steps.Choose.{chooseBy, place}
 use Rattle.encode_rules.proofs.Bools.{so, both-true}
@@ -125,11 +124,11 @@ in-range w x v l z = by w l z
     some true l z = ltb-true _ _ l
     some false l z = subst (λ v. v < 1) (sym (z refl)) (ltb-true 0 1 refl)
 
-    by : (w : Width) → at w true true (ltb v (numberLimit x)) ≡ true → (both (eqb (widthNo w) 0) (either (sameName x Imm4) (sameName x Imm8)) ≡ false → v ≡ 0)
-        → v < pick (both (eqb (widthNo w) 0) (either (sameName x Imm4) (sameName x Imm8))) (numberLimit x) 1
+    by : (w : Width) → at w true true (ltb v (numberLimit x)) ≡ true → (both (eqb (widthNo w) 0) (inCode x) ≡ false → v ≡ 0)
+        → v < pick (both (eqb (widthNo w) 0) (inCode x)) (numberLimit x) 1
     by B l z = subst (λ v. v < 1) (sym (z refl)) (ltb-true 0 1 refl)
     by W l z = subst (λ v. v < 1) (sym (z refl)) (ltb-true 0 1 refl)
-    by None l z = some (either (sameName x Imm4) (sameName x Imm8)) l z
+    by None l z = some (inCode x) l z
 
 pub formed : (o : Opcode) (q : Asked) (a b : ℕ) → goesWith (formOf o) q ≡ true → (whole (q .width) (q .op0) ≡ false → q .number ≡ 0) → chooseBy o q ≡ code a b → Formed a b o q
 unfolding goesWith formTest

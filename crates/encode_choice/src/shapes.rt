@@ -25,7 +25,7 @@ fn word(w: Width) -> u8
 
 // No operand in the second byte.
 pub(crate) fn only(f: u8, b: u64, q: Asked) -> Code
-    requires { ⌜ f ≤ 0x7C ⌝ }
+    requires { ⌜ f ≤ 0xFE ⌝ }
     ensures { λ r. ⌜ r ≡ coded (choice.only f b q) ⌝ }
 {
     let width = q.width;
@@ -37,7 +37,7 @@ pub(crate) fn only(f: u8, b: u64, q: Asked) -> Code
 
 // The code of an operand in the low nibble.
 fn general(f: u8, h: u64, w: Width, o: Operand) -> Code
-    requires { ⌜ (f ≤ 0x7C) × (h ≤ 15) ⌝ }
+    requires { ⌜ (f ≤ 0xFE) × (h ≤ 15) ⌝ }
     ensures { λ r. ⌜ r ≡ coded (choice.general f h w o) ⌝ }
 {
     Code {
@@ -48,7 +48,7 @@ fn general(f: u8, h: u64, w: Width, o: Operand) -> Code
 
 // Operand 0 is G(n).
 pub(crate) fn unary(f: u8, h: u64, q: Asked) -> Code
-    requires { ⌜ (f ≤ 0x7C) × (h ≤ 15) ⌝ }
+    requires { ⌜ (f ≤ 0xFE) × (h ≤ 15) ⌝ }
     ensures { λ r. ⌜ r ≡ coded (choice.unary f h q) ⌝ }
 {
     let width = q.width;
@@ -58,7 +58,7 @@ pub(crate) fn unary(f: u8, h: u64, q: Asked) -> Code
 
 // Operand 1 is G(n).
 pub(crate) fn binary(f: u8, h: u64, q: Asked) -> Code
-    requires { ⌜ (f ≤ 0x7C) × (h ≤ 15) ⌝ }
+    requires { ⌜ (f ≤ 0xFE) × (h ≤ 15) ⌝ }
     ensures { λ r. ⌜ r ≡ coded (choice.binary f h q) ⌝ }
 {
     let width = q.width;
@@ -68,7 +68,7 @@ pub(crate) fn binary(f: u8, h: u64, q: Asked) -> Code
 
 // Operands 0 and 1 are G(h) and G(n).
 pub(crate) fn twice(f: u8, q: Asked) -> Code
-    requires { ⌜ f ≤ 0x7C ⌝ }
+    requires { ⌜ f ≤ 0xFE ⌝ }
     ensures { λ r. ⌜ r ≡ coded (choice.twice f q) ⌝ }
 {
     let op0 = q.op0;
@@ -77,7 +77,7 @@ pub(crate) fn twice(f: u8, q: Asked) -> Code
 
 // An immediate alone, or operand 0 is G(n).
 pub(crate) fn imm_or_unary(b: u64, f: u8, h: u64, q: Asked) -> Code
-    requires { ⌜ (f ≤ 0x7C) × (h ≤ 15) ⌝ }
+    requires { ⌜ (f ≤ 0xFE) × (h ≤ 15) ⌝ }
     ensures { λ r. ⌜ r ≡ coded (choice.immOrUnary b f h q) ⌝ }
 {
     let op0 = q.op0;

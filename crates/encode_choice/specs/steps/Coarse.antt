@@ -29,9 +29,13 @@ classOf v = pick (eqb v 0) 0 (pick (ltb v 256) 1 (pick (ltb v 65536) 2 (pick (lt
 abbrev pub rep : ℕ → ℕ
 rep c = getD (0 ∷ 1 ∷ 256 ∷ 65536 ∷ twentyBits ∷ []) c 0
 
--- at no width, Imm4 and Imm8 are part of the code (the long shifts and INT): their numbers are told apart one by one
+-- the names whose number is part of the code at no width: Imm4 of the long shifts, Imm8 of INT
+abbrev pub inCode : Operand → Bool
+inCode o = either (sameName o Imm4) (sameName o Imm8)
+
+-- such numbers are told apart one by one
 unfoldable pub whole : Width → Operand → Bool
-whole w o = both (eqb (widthNo w) 0) (either (sameName o Imm4) (sameName o Imm8))
+whole w o = both (eqb (widthNo w) 0) (inCode o)
 
 abbrev pub wholeKey : Key → Bool
 wholeKey k = whole (k .width) (k .base0)

@@ -247,7 +247,7 @@ names form.Exchange w = go (take 4 (general w)) (general w)
 names form.StoreControl w = go (at w [] wordNames []) controls
 names form.Control w = go (at w [] [] controls) none
 
--- a number that is part of the code, at no width: Imm4 of the long shifts, Imm8 of INT
+-- how many numbers a name has that is part of the code at no width
 abbrev pub numberLimit : Operand → ℕ
 numberLimit o = pick (sameName o Imm4) 16 64
 
