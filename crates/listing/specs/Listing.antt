@@ -11,6 +11,7 @@ use Rattle.sweep.specs.Walk.{Walk, last, more, stopping, walk}
 use Rattle.line.specs.Characters.{spelled}
 use Rattle.line.specs.Line.{lineOf, endText, refusedText}
 
+-- the line of what stands at a place
 abbrev pub stepText : ℕ → Step → List ℕ
 stepText p End = endText p
 stepText p (Accepted r t) = lineOf p r
@@ -20,6 +21,7 @@ stepText p (Refused e t) = refusedText p e t
 abbrev pub lineAt : ℕ → Step → List ℕ
 lineAt p s = stepText p s ++ spelled "\n"
 
+-- a line for each place of a walk, in its order
 abbrev pub textOf : Walk → List ℕ
 textOf (last p s) = lineAt p s
 textOf (more p s w) = lineAt p s ++ textOf w

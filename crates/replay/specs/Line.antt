@@ -12,14 +12,17 @@ use Rattle.replay.specs.Encoding as encoding
 use Rattle.replay.specs.Sweeping as sweeping
 use Rattle.replay.specs.Verdict.{Judged}
 
+-- what the first character tells
 abbrev pub kindOf : List ℕ → Kind
 kindOf s = pick (eqb (getD s 0 0) 69) Encodes (pick (eqb (getD s 0 0) 83) Sweeps Decodes)
 
+-- a line has the form of its kind
 abbrev pub Whole : Kind → List ℕ → Type 0
 Whole Encodes s = encoding.Whole s
 Whole Sweeps s = sweeping.Whole s
 Whole Decodes s = decoding.Whole s
 
+-- what it says is what the promise of its kind allows
 abbrev pub Right : Kind → List ℕ → Type 0
 Right Encodes s = encoding.Right s
 Right Sweeps s = sweeping.Right s

@@ -1,4 +1,4 @@
--- Document 01, "it decodes at 0, then after each accepted instruction": what stands at a place of an image, and a walk from place to place.
+-- Document 01, the sweep: what stands at a place of an image, and a walk from place to place.
 use Prim.Native.Nat.{ℕ, zero, suc, _+_, _-_}
 use mathlib.Core.List.{List}
 use lib.ListN.{length, drop}
@@ -8,6 +8,7 @@ use Rattle.record.specs.declared.Answer.{Answer}
 use Rattle.sweep.specs.declared.step.Step.{Step}
 use Rattle.sweep.specs.declared.step.Step.the-variants.{End, Accepted, Refused}
 
+-- what an answer makes of a place: 0 is no refusal
 abbrev pub answered : Answer → Step
 answered x = pick (eqb (x .refusal) 0) (Accepted (x .inst) (x .taken)) (Refused (x .refusal) (x .taken))
 
@@ -35,6 +36,7 @@ onward rule p End = stop
 onward rule p (Accepted r t) = on (p + t)
 onward rule p (Refused e t) = rule p
 
+-- a place and its step, and the walk from where it leads
 abbrev pub visit : ℕ → Step → Onward → (ℕ → Walk) → Walk
 visit p s stop walk = last p s
 visit p s (on q) walk = more p s (walk q)
