@@ -1,6 +1,7 @@
 pub mod Reading
 pub mod Steps
 pub mod Taken
+pub mod Sizes
 pub mod Behind
 pub mod All
 pub mod Counts

@@ -17,37 +17,50 @@ use Rattle.laws.specs.Choice.{pick}
 use Rattle.rows.specs.Row.{Num, disp, imm, imm20, InvalidOperand, Read, num, stop, Condition, named, unnamed}
 
 -- General, G(c): registers by the width at codes 0 to 3, then one list
+abbrev pub sharedNames : List Operand
+sharedNames = A0 ∷ A1 ∷ «Deref_A0» ∷ «Deref_A1» ∷ «Disp8_A0» ∷ «Disp8_A1» ∷ «Disp8_SB» ∷ «Disp8_FB» ∷ «Disp16_A0» ∷ «Disp16_A1» ∷ «Disp16_SB» ∷ Abs16 ∷ []
+
 abbrev pub byteNames : List Operand
-byteNames = R0L ∷ R0H ∷ R1L ∷ R1H ∷ A0 ∷ A1 ∷ «Deref_A0» ∷ «Deref_A1» ∷ «Disp8_A0» ∷ «Disp8_A1» ∷ «Disp8_SB» ∷ «Disp8_FB» ∷ «Disp16_A0» ∷ «Disp16_A1» ∷ «Disp16_SB» ∷ Abs16 ∷ []
+byteNames = R0L ∷ R0H ∷ R1L ∷ R1H ∷ sharedNames
 
 abbrev pub wordNames : List Operand
-wordNames = R0 ∷ R1 ∷ R2 ∷ R3 ∷ A0 ∷ A1 ∷ «Deref_A0» ∷ «Deref_A1» ∷ «Disp8_A0» ∷ «Disp8_A1» ∷ «Disp8_SB» ∷ «Disp8_FB» ∷ «Disp16_A0» ∷ «Disp16_A1» ∷ «Disp16_SB» ∷ Abs16 ∷ []
+wordNames = R0 ∷ R1 ∷ R2 ∷ R3 ∷ sharedNames
 
 abbrev pub nameG : Width → ℕ → Operand
 nameG B c = getD byteNames c Nothing
 nameG W c = getD wordNames c Nothing
 nameG None c = getD wordNames c Nothing
 
--- 8 to B read one byte, C to F two
+-- the rule of request A8: no byte at codes below 8, one below C, else two
 abbrev pub sizeG : ℕ → ℕ
 sizeG c = pick (ltb c 8) 0 (pick (ltb c 12) 1 2)
 
 -- Bit, T(c): as G, but codes 0 to 5 also read one byte
+abbrev pub bitNames : List Operand
+bitNames =
+    «Bit_R0» ∷ «Bit_R1» ∷ «Bit_R2» ∷ «Bit_R3» ∷ «Bit_A0» ∷ «Bit_A1» ∷ «Bit_Deref_A0» ∷ «Bit_Deref_A1»
+    ∷ «Bit_Disp8_A0» ∷ «Bit_Disp8_A1» ∷ «Bit_Disp8_SB» ∷ «Bit_Disp8_FB» ∷ «Bit_Disp16_A0» ∷ «Bit_Disp16_A1» ∷ «Bit_Disp16_SB» ∷ «Bit_Abs16» ∷ []
+
 abbrev pub nameT : ℕ → Operand
-nameT c = getD («Bit_R0» ∷ «Bit_R1» ∷ «Bit_R2» ∷ «Bit_R3» ∷ «Bit_A0» ∷ «Bit_A1» ∷ «Bit_Deref_A0» ∷ «Bit_Deref_A1» ∷ «Bit_Disp8_A0» ∷ «Bit_Disp8_A1»
-    ∷ «Bit_Disp8_SB» ∷ «Bit_Disp8_FB» ∷ «Bit_Disp16_A0» ∷ «Bit_Disp16_A1» ∷ «Bit_Disp16_SB» ∷ «Bit_Abs16» ∷ []) c Nothing
+nameT c = getD bitNames c Nothing
 
 abbrev pub sizeT : ℕ → ℕ
 sizeT c = pick (ltb c 6) 1 (sizeG c)
 
--- Long, J(c): 2, 3 and 5 name nothing and are refused, C and D are Disp20 with three bytes, the rest as G from 6 on
+-- register pairs at codes 0, 1 and 4; 2, 3 and 5 name nothing and are refused; from 6 on as G
+abbrev pub nameP : Width → ℕ → Operand
+nameP w c = getD (R2R0 ∷ R3R1 ∷ Nothing ∷ Nothing ∷ A1A0 ∷ Nothing ∷ []) c (nameG w c)
+
+-- Long, J(c): pairs, C and D are Disp20 with three bytes, the rest as G
 abbrev pub nameJ : ℕ → Operand
-nameJ c = getD (R2R0 ∷ R3R1 ∷ Nothing ∷ Nothing ∷ A1A0 ∷ Nothing ∷ «Deref_A0» ∷ «Deref_A1» ∷ «Disp8_A0» ∷ «Disp8_A1» ∷ «Disp8_SB» ∷ «Disp8_FB»
-    ∷ «Disp20_A0» ∷ «Disp20_A1» ∷ «Disp16_SB» ∷ Abs16 ∷ []) c Nothing
+nameJ c = pick (eqb c 12) «Disp20_A0» (pick (eqb c 13) «Disp20_A1» (nameP W c))
 
 -- Control, K(c): 0 names nothing and is refused
+abbrev pub controlNames : List Operand
+controlNames = INTBL ∷ INTBH ∷ FLG ∷ ISP ∷ SP ∷ SB ∷ FB ∷ []
+
 abbrev pub nameK : ℕ → Operand
-nameK c = getD (Nothing ∷ INTBL ∷ INTBH ∷ FLG ∷ ISP ∷ SP ∷ SB ∷ FB ∷ []) c Nothing
+nameK c = getD (Nothing ∷ controlNames) c Nothing
 
 -- I: Imm8 at width B, Imm16 at W
 abbrev pub nameI : Width → Operand

@@ -4,6 +4,7 @@ pub mod Codes
 pub mod Rows
 pub mod Run
 pub mod Fate
+pub mod Sizes
 pub mod All
 pub mod Spans
 pub mod Agree

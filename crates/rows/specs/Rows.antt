@@ -15,10 +15,10 @@ use Rattle.record.specs.declared.Size.the-variants as size
 use Rattle.record.specs.declared.Width.{Width}
 use Rattle.record.specs.declared.Width.the-variants.{None, B, W}
 use Rattle.record.specs.declared.Operand.{Operand}
-use Rattle.record.specs.declared.Operand.the-variants.{Nothing, Imm4, Imm8, Imm16, R0L, R0H, R1H, R0, R1, R2R0, R3R1, A1A0, «Disp8_SP», «Disp20_A0», «Deref_A1A0», Abs16, Abs20, Disp8, SP}
+use Rattle.record.specs.declared.Operand.the-variants.{Nothing, Imm4, Imm8, Imm16, R0L, R0H, R1H, R0, R1, R2R0, R3R1, «Disp8_SP», «Disp20_A0», «Deref_A1A0», Abs16, Abs20, Disp8, SP}
 use Rattle.laws.specs.Choice.{pick}
 use Rattle.rows.specs.Row.{disp, imm, Refusal, InvalidOpcode, InvalidOperand, Read, num, cond, stop, Row, Table}
-use Rattle.rows.specs.Codes.{noPair, numJ, nameG, nameT, nameJ, nameK, nameI, G, Bit, I, L, J, K, refuse}
+use Rattle.rows.specs.Codes.{noPair, numJ, nameG, nameT, nameP, nameJ, nameK, nameI, G, Bit, I, L, J, K, refuse}
 
 -- the size that a width gives an opcode that carries one
 abbrev pub sizeOf : Width → Size
@@ -208,11 +208,8 @@ abbrev pub exts : ℕ → Row
 exts n = bare EXTS B (nameG B n) Nothing (refuse (badExts n) (G n ∷ []))
 
 -- C: 3 for n 2, 3, 5; 0, 1, 4 are R2R0 R3R1 A1A0
-abbrev pub nameC : ℕ → Operand
-nameC n = getD (R2R0 ∷ R3R1 ∷ Nothing ∷ Nothing ∷ A1A0 ∷ Nothing ∷ []) n (nameG B n)
-
 abbrev pub extsC : ℕ → Row
-extsC n = star (bare EXTS B (nameC n) Nothing (refuse (noPair n) (G n ∷ [])))
+extsC n = star (bare EXTS B (nameP B n) Nothing (refuse (noPair n) (G n ∷ [])))
 
 unfoldable pub row7CF : ℕ → Row
 row7CF n =

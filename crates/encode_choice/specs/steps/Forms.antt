@@ -14,12 +14,10 @@ use Rattle.record.specs.declared.Width.{Width}
 use Rattle.record.specs.declared.Width.the-variants.{None, B, W}
 use Rattle.record.specs.declared.Operand.{Operand}
 use Rattle.record.specs.declared.Operand.the-variants.{Nothing, Imm4, Imm8, Imm16, R0L, R0H, R1L, R1H, R0, R1, R2R0, R3R1, A0, A1, A1A0}
-use Rattle.record.specs.declared.Operand.the-variants.{«Disp8_SP», «Disp20_A0», «Disp20_A1», «Deref_A1A0», Abs16, Abs20, Disp8, INTBL, INTBH, FLG, ISP, SP, SB, FB}
-use Rattle.record.specs.declared.Operand.the-variants.{«Bit_R0», «Bit_R1», «Bit_R2», «Bit_R3», «Bit_A0», «Bit_A1», «Bit_Deref_A0», «Bit_Deref_A1»}
-use Rattle.record.specs.declared.Operand.the-variants.{«Bit_Disp8_A0», «Bit_Disp8_A1», «Bit_Disp8_SB», «Bit_Disp8_FB», «Bit_Disp16_A0», «Bit_Disp16_A1», «Bit_Disp16_SB», «Bit_Abs16»}
+use Rattle.record.specs.declared.Operand.the-variants.{«Disp8_SP», «Disp20_A0», «Disp20_A1», «Deref_A1A0», Abs16, Abs20, Disp8, SP}
 use Rattle.record.specs.Numbers.{sizeNo}
 use Rattle.record.specs.Same.{sameName, among}
-use Rattle.rows.specs.Codes.{byteNames, wordNames}
+use Rattle.rows.specs.Codes.{byteNames, wordNames, bitNames, controlNames}
 use Rattle.encode_choice.specs.declared.Asked.{Asked}
 use Rattle.encode_choice.specs.declared.name_sets.Form.{Form}
 use Rattle.encode_choice.specs.declared.name_sets.Form.the-variants as form
@@ -198,15 +196,6 @@ shifted w long = at w (take 3 byteNames ++ drop 4 byteNames) (R0 ∷ drop 2 word
 abbrev pub far : List Operand
 far = Abs20 ∷ «Disp20_A0» ∷ «Deref_A1A0» ∷ []
 
--- Bit, and Control without the code that names nothing
-abbrev pub bits : List Operand
-bits =
-    «Bit_R0» ∷ «Bit_R1» ∷ «Bit_R2» ∷ «Bit_R3» ∷ «Bit_A0» ∷ «Bit_A1» ∷ «Bit_Deref_A0» ∷ «Bit_Deref_A1»
-    ∷ «Bit_Disp8_A0» ∷ «Bit_Disp8_A1» ∷ «Bit_Disp8_SB» ∷ «Bit_Disp8_FB» ∷ «Bit_Disp16_A0» ∷ «Bit_Disp16_A1» ∷ «Bit_Disp16_SB» ∷ «Bit_Abs16» ∷ []
-
-abbrev pub controls : List Operand
-controls = INTBL ∷ INTBH ∷ FLG ∷ ISP ∷ SP ∷ SB ∷ FB ∷ []
-
 -- no operand
 abbrev pub none : List Operand
 none = Nothing ∷ []
@@ -225,15 +214,15 @@ names form.Rotate w = go (R1H ∷ []) (shifted w [])
 names form.Shift w = go (at w (R1H ∷ []) (R1H ∷ []) (R1H ∷ Imm4 ∷ [])) (shifted w (R2R0 ∷ R3R1 ∷ []))
 names form.Decimal w = go (at w (Imm8 ∷ R0H ∷ []) (Imm16 ∷ R1 ∷ []) []) (at w (R0L ∷ []) (R0 ∷ []) [])
 names form.Block w = go (at w none none []) none
-names form.Bit w = go (at w [] [] bits) none
-names form.FlagOrBit w = go (at w [] none bits) none
+names form.Bit w = go (at w [] [] bitNames) none
+names form.FlagOrBit w = go (at w [] none bitNames) none
 names form.Enter w = go (at w (Imm8 ∷ []) [] []) none
 names form.Plain w = go (at w [] none []) none
 names form.Extend w = go (at w (R0 ∷ R0L ∷ R1L ∷ drop 6 byteNames) [] []) none
 names form.Interrupt w = go (at w [] [] (Imm8 ∷ [])) none
 names form.Jump w = go (at w [] (Disp8 ∷ []) []) none
 names form.Indirect w = go (at w [] (R2R0 ∷ R3R1 ∷ A1A0 ∷ «Disp20_A0» ∷ «Disp20_A1» ∷ (take 6 (drop 6 wordNames) ++ drop 14 wordNames)) []) none
-names form.LoadControl w = go (at w [] [] (Imm16 ∷ [])) controls
+names form.LoadControl w = go (at w [] [] (Imm16 ∷ [])) controlNames
 names form.LoadContext w = go (at w (Abs16 ∷ []) [] []) (Abs20 ∷ [])
 names form.StoreContext w = go (at w [] (Abs16 ∷ []) []) (Abs20 ∷ [])
 names form.LoadFar w = go far (general w)
@@ -244,8 +233,8 @@ names form.Half w = go (at w byteNames [] []) byteNames
 names form.HalfRegister w = go (at w (R0L ∷ A0 ∷ A1 ∷ []) [] []) (R0L ∷ A0 ∷ A1 ∷ [])
 names form.Multiply w = go (general w) (at w (R0L ∷ R1L ∷ A0 ∷ drop 6 byteNames) (R0 ∷ R1 ∷ A0 ∷ drop 6 wordNames) [])
 names form.Exchange w = go (take 4 (general w)) (general w)
-names form.StoreControl w = go (at w [] wordNames []) controls
-names form.Control w = go (at w [] [] controls) none
+names form.StoreControl w = go (at w [] wordNames []) controlNames
+names form.Control w = go (at w [] [] controlNames) none
 
 -- how many numbers a name has that is part of the code at no width
 abbrev pub numberLimit : Operand → ℕ
