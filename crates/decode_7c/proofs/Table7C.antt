@@ -2,15 +2,12 @@
 -- Assumes nothing.
 use Prim.Native.Nat.{ℕ, _%_, _<_}
 use mathlib.Core.Path.{_≡_, refl}
-use mathlib.Core.List.{List, [], _∷_}
+use mathlib.Core.List.{[], _∷_}
 use lib.Dec.{ltb}
-use lib.ListN.{getD}
 use Rattle.laws.specs.Choice.{pick}
 use Rattle.laws.proofs.Agree.{agree, Rest, agree-past}
-use Rattle.record.specs.declared.Operand.{Operand}
-use Rattle.record.specs.declared.Operand.the-variants.{Nothing, R2R0, R3R1, A1A0, «Deref_A0», «Deref_A1», «Disp8_A0», «Disp8_A1», «Disp8_SB», «Disp8_FB», «Disp16_A0», «Disp16_A1», «Disp16_SB», Abs16}
 use Rattle.rows.specs.Row.{InvalidOpcode}
-use Rattle.rows.specs.Rows.{row, refused, exchanged, badExts, nameC, row7C, row7CF}
+use Rattle.rows.specs.Rows.{row, refused, exchanged, badExts, row7C, row7CF}
 use Rattle.decode_7c.specs.steps.Op7C.{meantBy, nibble, noExts}
 
 pub meant : (n : ℕ) → n < 16 → meantBy n ≡ exchanged n
@@ -31,12 +28,6 @@ pub past-F : (n : ℕ) → n < 16 → Rest (3 ∷ 2 ∷ 1 ∷ 0 ∷ []) n → ro
 unfolding row row7CF
 past-F = agree-past (3 ∷ 2 ∷ 1 ∷ 0 ∷ []) (refused InvalidOpcode) row7CF (λ n. refused InvalidOpcode) 16 refl
 
--- the code's tests and table of sixteen
+-- the code's test
 pub no-exts : (n : ℕ) → n < 16 → noExts n ≡ badExts n
 no-exts = agree noExts badExts 16 refl
-
-abbrev pub pairs : List Operand
-pairs = R2R0 ∷ R3R1 ∷ Nothing ∷ Nothing ∷ A1A0 ∷ Nothing ∷ «Deref_A0» ∷ «Deref_A1» ∷ «Disp8_A0» ∷ «Disp8_A1» ∷ «Disp8_SB» ∷ «Disp8_FB» ∷ «Disp16_A0» ∷ «Disp16_A1» ∷ «Disp16_SB» ∷ Abs16 ∷ []
-
-pub paired : (n : ℕ) → n < 16 → getD pairs n Nothing ≡ nameC n
-paired = agree (λ n. getD pairs n Nothing) nameC 16 refl

@@ -68,33 +68,14 @@ fn extend_byte(bs: &[u8], b: u8) -> Answer
     )
 }
 
-// The codes of h = C: register pairs, then G.
-const PAIRS: [Operand; 16] = [
-    Operand::R2R0,
-    Operand::R3R1,
-    Operand::Nothing,
-    Operand::Nothing,
-    Operand::A1A0,
-    Operand::Nothing,
-    Operand::Deref_A0,
-    Operand::Deref_A1,
-    Operand::Disp8_A0,
-    Operand::Disp8_A1,
-    Operand::Disp8_SB,
-    Operand::Disp8_FB,
-    Operand::Disp16_A0,
-    Operand::Disp16_A1,
-    Operand::Disp16_SB,
-    Operand::Abs16,
-];
-
+// h = C: register pairs, then G.
 fn extend_pair(bs: &[u8], b: u8) -> Answer
     ensures { λ r. ⌜ r ≡ runRow (extsC (b % 16)) (now (bs .entry)) ⌝ }
 {
     if long::long_refused(b % 16) {
         return answer::refuse(refusal::INVALID_OPERAND, 2);
     }
-    let name = PAIRS[(b % 16) as usize];
+    let name = long::pair_name(b);
     let got = general::general(bs, answer::BEGIN, b % 16);
     answer::finish(
         bs,

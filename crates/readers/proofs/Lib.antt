@@ -1,2 +1,3 @@
 pub mod Finish
+pub mod Names
 pub mod Nibble

@@ -9,8 +9,9 @@ use record::Got;
 use record::Operand;
 use record::Seen;
 
-// Registers at W, then at B: one table, so that a width picks a place in it and no table is copied twice.
-const NAMES: [Operand; 32] = [
+// Names by code: at W, at B, then what other forms have in place of those at W: pairs at codes 0 to 5, J at C and D. One table, so
+// that a width picks a place in it; sharing the twelve names from A0 on takes more code than it saves.
+pub(crate) const NAMES: [Operand; 40] = [
     Operand::R0,
     Operand::R1,
     Operand::R2,
@@ -43,6 +44,14 @@ const NAMES: [Operand; 32] = [
     Operand::Disp16_A1,
     Operand::Disp16_SB,
     Operand::Abs16,
+    Operand::R2R0,
+    Operand::R3R1,
+    Operand::Nothing,
+    Operand::Nothing,
+    Operand::A1A0,
+    Operand::Nothing,
+    Operand::Disp20_A0,
+    Operand::Disp20_A1,
 ];
 
 // G(code): its name, by the low nibble.

@@ -1,7 +1,9 @@
 ghost use mathlib.Core.Path.{_≡_};
-ghost use Prim.Native.Nat.{_%_};
-ghost use Rattle.rows.specs.Codes.{nameJ, noPair, numJ};
+ghost use Prim.Native.Nat.{_%_, _<_};
+ghost use Rattle.record.specs.declared.Width.{Width};
+ghost use Rattle.rows.specs.Codes.{nameJ, nameP, noPair, numJ};
 ghost use Rattle.rows.specs.Run.{reading};
+ghost use Rattle.readers.specs.steps.Places.{pairPlace, longPlace};
 use crate::general;
 use crate::numbers;
 use crate::set;
@@ -9,30 +11,34 @@ use record::Got;
 use record::Operand;
 use record::Seen;
 
-const NAMES: [Operand; 16] = [
-    Operand::R2R0,
-    Operand::R3R1,
-    Operand::Nothing,
-    Operand::Nothing,
-    Operand::A1A0,
-    Operand::Nothing,
-    Operand::Deref_A0,
-    Operand::Deref_A1,
-    Operand::Disp8_A0,
-    Operand::Disp8_A1,
-    Operand::Disp8_SB,
-    Operand::Disp8_FB,
-    Operand::Disp20_A0,
-    Operand::Disp20_A1,
-    Operand::Disp16_SB,
-    Operand::Abs16,
-];
+// The place of a pair's name in the table: from code 6 on that of G.
+fn pair_place(n: usize) -> usize
+    requires { ⌜ n < 16 ⌝ }
+    ensures { λ r. ⌜ (r ≡ pairPlace n) × (r < 40) ⌝ }
+{
+    if n < 6 { 32 + n } else { n }
+}
+
+// The place of J's name: Disp20 at C and D.
+fn long_place(n: usize) -> usize
+    requires { ⌜ n < 16 ⌝ }
+    ensures { λ r. ⌜ (r ≡ longPlace n) × (r < 40) ⌝ }
+{
+    if n / 2 == 6 { 26 + n } else { pair_place(n) }
+}
+
+// A register pair below 6, else as G, which names the same at both widths there.
+pub fn pair_name(code: u8) -> Operand
+    ensures { λ r. ⌜ ((w : Width) → r ≡ nameP w (code % 16)) ⌝ }
+{
+    general::NAMES[pair_place((code % 16) as usize)]
+}
 
 // J(code): its name, by the low nibble.
 pub fn long_name(code: u8) -> Operand
     ensures { λ r. ⌜ r ≡ nameJ (code % 16) ⌝ }
 {
-    NAMES[(code % 16) as usize]
+    general::NAMES[long_place((code % 16) as usize)]
 }
 
 // J(code): no register pair has code 2, 3 or 5.

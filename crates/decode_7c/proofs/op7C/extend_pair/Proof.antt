@@ -1,14 +1,13 @@
 -- `decode_7c::op7C::extend_pair` meets its contract.
 -- Assumes nothing.
-use Prim.Native.Nat.{_%_}
 use mathlib.Core.Path.{refl, sym, _∙_}
 use borrow.Author.Needs.{needs}
+use Rattle.record.specs.declared.Width.the-variants.{B}
 use Rattle.rows.specs.Row.{InvalidOperand}
 use Rattle.rows.specs.Run.{runRow}
 use Rattle.rows.specs.Rows.{row}
 use Rattle.rows.proofs.Steps.{stops}
 use Rattle.readers.proofs.Finish.{ended}
-use Rattle.decode_7c.proofs.Table7C.{paired}
 use Rattle.decode_7c.proofs.op7C.extend_pair.Statement.{statement}
 use Rattle.decode_7c.proofs.op7C.extend_pair.Tie as tie
 
@@ -18,11 +17,10 @@ returns c = rw (sym (c .before .before .long-refused .ensures) ∙ c .before .if
 
 returns-2 : tie.Need-returns-2
 unfolding runRow row
-returns-2 c = let s = c .before .before .before .before .before .before in
+returns-2 c =
     rw (sym (c .before .before .before .before .long-refused .ensures) ∙ c .before .before .before .if1 .left)
-    (ended _ _ _ _ (c .before .general .ensures) (c .finish .ensures) refl refl refl (paired (s .args .b % 16) (search needs)) refl refl)
+    (ended _ _ _ _ (c .before .general .ensures) (c .finish .ensures) refl refl refl (c .before .before .pair-name .ensures B) refl refl)
 
 pub extend-pair-spec : {M : Type 1} → statement M
 extend-pair-spec =
-    tie.close
-    (tie.spec (λ c κs. search needs) (λ c κs. search needs) returns (λ c. search needs) (λ c. search needs) (λ c κs. search needs) (λ c κs. search needs) returns-2)
+    tie.close (tie.spec (λ c κs. search needs) (λ c κs. search needs) returns (λ c κs. search needs) (λ c κs. search needs) (λ c κs. search needs) returns-2)
