@@ -1,7 +1,7 @@
 // How many bytes behind a code a name's number has, and what it must be below.
 ghost use mathlib.Core.Path.{_≡_};
-ghost use Prim.Native.Nat.{_≤_};
-ghost use Rattle.encode.specs.steps.Slots.{countOf, limitOf};
+ghost use Prim.Native.Nat.{_/_, _%_, _^_};
+ghost use Rattle.encode.specs.steps.Slots.{sizeOf};
 use record::Operand;
 
 pub(crate) struct Slot {
@@ -9,8 +9,17 @@ pub(crate) struct Slot {
     pub limit: u32,
 }
 
-pub(crate) fn slot_of(o: Operand) -> Slot
-    ensures { λ r. ⌜ ((r .count ≡ countOf o) × (r .count ≤ 3)) × (r .limit ≡ limitOf o) ⌝ }
+// Both in one byte, so that a table of bytes is enough: 32 for each byte behind the code, and how many bits the number may have.
+const ONE_BYTE: u8 = 32 + 8;
+
+const TWO_BYTES: u8 = 2 * 32 + 16;
+
+const THREE_BYTES: u8 = 3 * 32 + 20;
+
+const IN_CODE: u8 = 4;
+
+pub(crate) fn size_of(o: Operand) -> u8
+    ensures { λ r. ⌜ r ≡ sizeOf o ⌝ }
 {
     match o {
         Operand::Imm8
@@ -29,10 +38,7 @@ pub(crate) fn slot_of(o: Operand) -> Slot
         | Operand::Disp8_SB
         | Operand::Disp8_FB
         | Operand::Disp8_SP
-        | Operand::Disp8 => Slot {
-            count: 1,
-            limit: 256,
-        },
+        | Operand::Disp8 => ONE_BYTE,
         Operand::Imm16
         | Operand::Bit_Disp16_A0
         | Operand::Bit_Disp16_A1
@@ -41,18 +47,18 @@ pub(crate) fn slot_of(o: Operand) -> Slot
         | Operand::Disp16_A0
         | Operand::Disp16_A1
         | Operand::Disp16_SB
-        | Operand::Abs16 => Slot {
-            count: 2,
-            limit: 65536,
-        },
-        Operand::Disp20_A0 | Operand::Disp20_A1 | Operand::Abs20 => Slot {
-            count: 3,
-            limit: 0x100000,
-        },
-        Operand::Imm4 => Slot {
-            count: 0,
-            limit: 16,
-        },
-        _ => Slot { count: 0, limit: 1 },
+        | Operand::Abs16 => TWO_BYTES,
+        Operand::Disp20_A0 | Operand::Disp20_A1 | Operand::Abs20 => THREE_BYTES,
+        Operand::Imm4 => IN_CODE,
+        _ => 0,
+    }
+}
+
+pub(crate) fn slot_by(size: u8) -> Slot
+    ensures { λ r. ⌜ (r .count ≡ size / 32) × (r .limit ≡ 2 ^ (size % 32)) ⌝ }
+{
+    Slot {
+        count: size / 32,
+        limit: 1 << (size % 32),
     }
 }

@@ -112,8 +112,8 @@ pub(crate) fn plan_of(a: u8, b: u8, q: Asked, c: u8, k: Key) -> Plan
 {
     let op0 = q.op0;
     let op1 = q.op1;
-    let slot0 = counts::slot_of(op0);
-    let slot1 = counts::slot_of(op1);
+    let slot0 = counts::slot_by(counts::size_of(op0));
+    let slot1 = counts::slot_by(counts::size_of(op1));
     if joined::both(k.number0 < slot0.limit, k.number1 < slot1.limit) {
         return in_order(
             a,

@@ -23,14 +23,17 @@ use Rattle.encode_choice.specs.steps.Forms.{formOf, names, sizeFor}
 use Rattle.encode_choice.specs.steps.NameSet.{bitSet, first, second, sizeBit, hasBit, allIn}
 use Rattle.encode_rules.proofs.Bools.{so}
 
+-- a set that agrees with a test at every name
+pub set-names : (m : ℕ) (f : Operand → Bool) → T (every (λ i x. eqb (bit (hasBit m (operandNo x))) (bit (f x))) 0 operands) → (x : Operand) → hasBit m (operandNo x) ≡ f x
+set-names m f t x = bits-apart _ _ (eqb-true _ _ (so _ (every-operand (λ x. eqb (bit (hasBit m (operandNo x))) (bit (f x))) t x)))
+
 -- a test of every opcode's set at every name
 abbrev Names : (Opcode → ℕ) → (Opcode → List Operand) → Type 0
 Names f xs = T (every (λ i o. every (λ j x. eqb (bit (hasBit (f o) (operandNo x))) (bit (among (xs o) x))) 0 operands) 0 opcodes)
 
 from-names : (f : Opcode → ℕ) (xs : Opcode → List Operand) → Names f xs → (o : Opcode) (x : Operand) → hasBit (f o) (operandNo x) ≡ among (xs o) x
-from-names f xs t o x =
-    let agrees : Opcode → Operand → Bool = λ o x. eqb (bit (hasBit (f o) (operandNo x))) (bit (among (xs o) x)) in
-    bits-apart _ _ (eqb-true _ _ (so _ (every-operand (agrees o) (every-opcode (λ o. every (λ j x. agrees o x) 0 operands) t o) x)))
+from-names f xs t o =
+    set-names (f o) (among (xs o)) (every-opcode (λ o. every (λ j x. eqb (bit (hasBit (f o) (operandNo x))) (bit (among (xs o) x))) 0 operands) t o)
 
 first-names : (w : Width) → Names (λ o. first (formOf o) w) (λ o. names (formOf o) w .first)
 unfolding bitSet formOf among sameName

@@ -8,6 +8,7 @@ use crate::names;
 use record::Key;
 use record::Opcode;
 use record::Operand;
+use record::fields;
 use record::numbers;
 
 fn by_number(zero: bool, small: bool, deref: Operand, disp8: Operand, disp16: Operand) -> Operand
@@ -23,30 +24,34 @@ fn by_number(zero: bool, small: bool, deref: Operand, disp8: Operand, disp16: Op
 fn narrow(o: Operand, zero: bool, small: bool) -> Operand
     ensures { λ r. ⌜ r ≡ choice.narrow o zero small ⌝ }
 {
-    match o {
-        Operand::Disp16_A0 => by_number(
+    if fields::same_name(o, Operand::Disp16_A0) {
+        return by_number(
             zero,
             small,
             Operand::Deref_A0,
             Operand::Disp8_A0,
             Operand::Disp16_A0,
-        ),
-        Operand::Disp16_A1 => by_number(
+        );
+    }
+    if fields::same_name(o, Operand::Disp16_A1) {
+        return by_number(
             zero,
             small,
             Operand::Deref_A1,
             Operand::Disp8_A1,
             Operand::Disp16_A1,
-        ),
-        Operand::Disp16_SB => by_number(
+        );
+    }
+    if fields::same_name(o, Operand::Disp16_SB) {
+        return by_number(
             false,
             small,
             Operand::Disp16_SB,
             Operand::Disp8_SB,
             Operand::Disp16_SB,
-        ),
-        _ => o,
+        );
     }
+    o
 }
 
 fn whole_number(k: Key) -> u32

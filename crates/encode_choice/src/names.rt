@@ -3,20 +3,20 @@ ghost use mathlib.Core.Path.{_≡_};
 ghost use Rattle.record.specs.Same.{fieldOf};
 ghost use Rattle.encode_choice.specs.steps.Coarse.{whole};
 ghost use Rattle.encode_choice.specs.steps.Coded.{isWide};
+use crate::sets;
 use record::Operand;
 use record::Width;
 use record::fields;
 use record::numbers;
 
+// Imm4, Imm8 and Imm16; Disp20_A0 and Disp20_A1; Abs20, Disp8 and RegList: each by the bit of its number.
+const WIDE: u64 = (0b111 << 1) + (0b11 << 41) + (0b111 << 47);
+
 // Its number is in imm_wide.
 pub fn is_wide(o: Operand) -> bool
     ensures { λ r. ⌜ r ≡ isWide (fieldOf o) ⌝ }
 {
-    match o {
-        Operand::Imm4 | Operand::Imm8 | Operand::Imm16 | Operand::RegList => true,
-        Operand::Abs20 | Operand::Disp8 | Operand::Disp20_A0 | Operand::Disp20_A1 => true,
-        _ => false,
-    }
+    sets::has(WIDE, o)
 }
 
 // Its number is part of the code: at no width, Imm4 and Imm8.

@@ -42,7 +42,7 @@ fn general(f: u8, h: u64, w: Width, o: Operand) -> Code
 {
     Code {
         first: f + word(w),
-        second: 16 * h + name_sets::code_of(o),
+        second: 16 * h + (name_sets::code_of(o) as u64),
     }
 }
 
@@ -72,7 +72,7 @@ pub(crate) fn twice(f: u8, q: Asked) -> Code
     ensures { λ r. ⌜ r ≡ coded (choice.twice f q) ⌝ }
 {
     let op0 = q.op0;
-    binary(f, name_sets::code_of(op0), q)
+    binary(f, name_sets::code_of(op0) as u64, q)
 }
 
 // An immediate alone, or operand 0 is G(n).
@@ -96,7 +96,7 @@ pub(crate) fn bit(h: u64, q: Asked) -> Code
     let op0 = q.op0;
     Code {
         first: 0x7E,
-        second: 16 * h + name_sets::code_of(op0),
+        second: 16 * h + (name_sets::code_of(op0) as u64),
     }
 }
 
@@ -139,13 +139,13 @@ pub(crate) fn half(h: u64, q: Asked) -> Code
     if fields::same_name(op1, Operand::R0L) {
         return Code {
             first: 0x7C,
-            second: 16 * h + name_sets::code_of(op0),
+            second: 16 * h + (name_sets::code_of(op0) as u64),
         };
     }
     if fields::same_name(op0, Operand::R0L) {
         return Code {
             first: 0x7C,
-            second: 16 * (8 + h) + name_sets::code_of(op1),
+            second: 16 * (8 + h) + (name_sets::code_of(op1) as u64),
         };
     }
     Code {
@@ -176,12 +176,12 @@ fn long(s: u64, q: Asked) -> Code
     if fields::same_name(op0, Operand::Imm4) {
         return Code {
             first: 0xEB,
-            second: 16 * (8 + s + name_sets::code_of(op1)) + (q.number as u64),
+            second: 16 * (8 + s + (name_sets::code_of(op1) as u64)) + (q.number as u64),
         };
     }
     Code {
         first: 0xEB,
-        second: 16 * (s + name_sets::code_of(op1)) + 1,
+        second: 16 * (s + (name_sets::code_of(op1) as u64)) + 1,
     }
 }
 

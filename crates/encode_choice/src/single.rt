@@ -40,7 +40,7 @@ pub(crate) fn exts(q: Asked) -> Code
     if fields::same_name(op0, Operand::R0) {
         return fixed(0x7C, 0xF3);
     }
-    fixed(0x7C, 0x60 + name_sets::code_of(op0))
+    fixed(0x7C, 0x60 + (name_sets::code_of(op0) as u64))
 }
 
 pub(crate) fn int(q: Asked) -> Code
@@ -55,14 +55,14 @@ pub(crate) fn jump(b: u64, q: Asked) -> Code
     ensures { λ r. ⌜ r ≡ coded (choice.jump b q) ⌝ }
 {
     let op0 = q.op0;
-    fixed(0x7D, b + name_sets::code_of(op0))
+    fixed(0x7D, b + (name_sets::code_of(op0) as u64))
 }
 
 pub(crate) fn ldc(q: Asked) -> Code
     ensures { λ r. ⌜ r ≡ coded (chooseBy LDC q) ⌝ }
 {
     let op1 = q.op1;
-    fixed(0xEB, 16 * name_sets::code_of(op1))
+    fixed(0xEB, 16 * (name_sets::code_of(op1) as u64))
 }
 
 // PUSHC and POPC, by the low nibble.
@@ -71,7 +71,7 @@ pub(crate) fn control(n: u64, q: Asked) -> Code
     ensures { λ r. ⌜ r ≡ coded (choice.control n q) ⌝ }
 {
     let op0 = q.op0;
-    fixed(0xEB, 16 * name_sets::code_of(op0) + n)
+    fixed(0xEB, 16 * (name_sets::code_of(op0) as u64) + n)
 }
 
 pub(crate) fn stc(q: Asked) -> Code
@@ -81,7 +81,7 @@ pub(crate) fn stc(q: Asked) -> Code
     let op0 = q.op0;
     fixed(
         0x7B,
-        16 * (8 + name_sets::code_of(op1)) + name_sets::code_of(op0),
+        16 * (8 + (name_sets::code_of(op1) as u64)) + (name_sets::code_of(op0) as u64),
     )
 }
 
@@ -115,12 +115,15 @@ pub(crate) fn mova(q: Asked) -> Code
 {
     let op1 = q.op1;
     let op0 = q.op0;
-    fixed(0xEB, 16 * name_sets::code_of(op1) + name_sets::code_of(op0))
+    fixed(
+        0xEB,
+        16 * (name_sets::code_of(op1) as u64) + (name_sets::code_of(op0) as u64),
+    )
 }
 
 pub(crate) fn pusha(q: Asked) -> Code
     ensures { λ r. ⌜ r ≡ coded (chooseBy PUSHA q) ⌝ }
 {
     let op0 = q.op0;
-    fixed(0x7D, 0x90 + name_sets::code_of(op0))
+    fixed(0x7D, 0x90 + (name_sets::code_of(op0) as u64))
 }

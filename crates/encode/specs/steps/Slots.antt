@@ -1,6 +1,6 @@
 -- The numbers of a key behind a code: each operand's in its bytes, in their order, and a condition.
 -- (Steps of the encoder: that the rows read them so is proved, not believed.)
-use Prim.Native.Nat.{ℕ, zero, suc}
+use Prim.Native.Nat.{ℕ, zero, suc, _+_, _*_}
 use mathlib.Core.Bool.{Bool}
 use mathlib.Core.List.{List, [], _∷_, _++_}
 use lib.Dec.{ltb, eqb}
@@ -44,6 +44,16 @@ limitBy (suc (suc (suc n))) = twentyBits
 -- Imm4 is part of a code
 unfoldable pub limitOf : Operand → ℕ
 limitOf o = pick (sameName o Imm4) 16 (limitBy (countOf o))
+
+-- both in one number: 32 for each byte, and how many bits the number may have
+abbrev pub sizeBy : ℕ → ℕ
+sizeBy zero = 0
+sizeBy (suc zero) = 32 + 8
+sizeBy (suc (suc zero)) = 2 * 32 + 16
+sizeBy (suc (suc (suc n))) = 3 * 32 + 20
+
+unfoldable pub sizeOf : Operand → ℕ
+sizeOf o = pick (sameName o Imm4) 4 (sizeBy (countOf o))
 
 -- an immediate, an address of 20 bits and Disp8_SP are read behind the other operand
 unfoldable pub turns : Operand → Bool

@@ -12,4 +12,4 @@ returns : tie.Need-returns
 returns c = ap (λ n. coded (code 0x7E (16 * c .before .args .h + n))) (c .code-of .ensures .0)
 
 pub bit-spec : {M : Type 1} → statement M
-bit-spec = tie.close (tie.spec (λ c. search needs) (λ c κs. search needs) (λ c. search needs) returns)
+bit-spec = tie.close (tie.spec (λ c. search needs) (λ c κs. search needs) (λ c. search needs) (λ c. search needs) returns)

@@ -14,4 +14,4 @@ returns c =
     ap₂ (λ w n. coded (code (args .f + w) (16 * args .h + n))) (c .before .word .ensures .0) (c .code-of .ensures .0)
 
 pub general-spec : {M : Type 1} → statement M
-general-spec = tie.close (tie.spec (λ c κs. search needs) (λ c. search needs) (λ c. search needs) (λ c κs. search needs) (λ c. search needs) returns)
+general-spec = tie.close (tie.spec (λ c κs. search needs) (λ c. search needs) (λ c. search needs) (λ c κs. search needs) (λ c. search needs) (λ c. search needs) returns)

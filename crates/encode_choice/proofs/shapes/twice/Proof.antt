@@ -13,4 +13,4 @@ returns c =
     c .binary .ensures ∙ ap (λ n. coded (choice.binary (args .f) n (args .q))) (c .before .code-of .ensures .0)
 
 pub twice-spec : {M : Type 1} → statement M
-twice-spec = tie.close (tie.spec (λ c κs. search needs) (λ c κs. search needs) returns)
+twice-spec = tie.close (tie.spec (λ c κs. search needs) (λ c. search needs) (λ c κs. search needs) returns)

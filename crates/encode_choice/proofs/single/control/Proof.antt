@@ -12,4 +12,4 @@ returns : tie.Need-returns
 returns c = c .fixed .ensures ∙ ap (λ n. coded (code 0xEB (16 * n + c .before .before .args .n))) (c .before .code-of .ensures .0)
 
 pub control-spec : {M : Type 1} → statement M
-control-spec = tie.close (tie.spec (λ c κs. search needs) (λ c. search needs) (λ c. search needs) (λ c κs. search needs) returns)
+control-spec = tie.close (tie.spec (λ c κs. search needs) (λ c. search needs) (λ c. search needs) (λ c. search needs) (λ c κs. search needs) returns)

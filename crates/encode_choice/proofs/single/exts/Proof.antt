@@ -18,4 +18,4 @@ unfolding chooseBy
 returns-2 c = rw (sym (c .before .before .before .same-name .ensures) ∙ c .before .before .if1 .left) (c .fixed2 .ensures ∙ ap (λ n. coded (code 0x7C (0x60 + n))) (c .before .code-of .ensures .0))
 
 pub exts-spec : {M : Type 1} → statement M
-exts-spec = tie.close (tie.spec (λ c κs. search needs) (λ c κs. search needs) returns (λ c κs. search needs) (λ c. search needs) (λ c κs. search needs) returns-2)
+exts-spec = tie.close (tie.spec (λ c κs. search needs) (λ c κs. search needs) returns (λ c κs. search needs) (λ c. search needs) (λ c. search needs) (λ c κs. search needs) returns-2)

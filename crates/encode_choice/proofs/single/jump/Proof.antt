@@ -12,4 +12,4 @@ returns : tie.Need-returns
 returns c = c .fixed .ensures ∙ ap (λ n. coded (code 0x7D (c .before .before .args .b + n))) (c .before .code-of .ensures .0)
 
 pub jump-spec : {M : Type 1} → statement M
-jump-spec = tie.close (tie.spec (λ c κs. search needs) (λ c. search needs) (λ c κs. search needs) returns)
+jump-spec = tie.close (tie.spec (λ c κs. search needs) (λ c. search needs) (λ c. search needs) (λ c κs. search needs) returns)

@@ -14,4 +14,4 @@ unfolding chooseBy
 returns c = c .fixed .ensures ∙ ap (λ n. coded (code 0xEB (16 * n))) (c .before .code-of .ensures .0)
 
 pub ldc-spec : {M : Type 1} → statement M
-ldc-spec = tie.close (tie.spec (λ c κs. search needs) (λ c. search needs) (λ c κs. search needs) returns)
+ldc-spec = tie.close (tie.spec (λ c κs. search needs) (λ c. search needs) (λ c. search needs) (λ c κs. search needs) returns)

@@ -14,4 +14,4 @@ unfolding chooseBy
 returns c = c .fixed .ensures ∙ ap₂ (λ h n. coded (code 0xEB (16 * h + n))) (c .before .before .code-of .ensures .0) (c .before .code-of2 .ensures .0)
 
 pub mova-spec : {M : Type 1} → statement M
-mova-spec = tie.close (tie.spec (λ c κs. search needs) (λ c. search needs) (λ c κs. search needs) (λ c. search needs) (λ c κs. search needs) returns)
+mova-spec = tie.close (tie.spec (λ c κs. search needs) (λ c. search needs) (λ c. search needs) (λ c κs. search needs) (λ c. search needs) (λ c. search needs) (λ c κs. search needs) returns)

@@ -14,4 +14,4 @@ unfolding chooseBy
 returns c = c .fixed .ensures ∙ ap (λ n. coded (code 0x7D (0x90 + n))) (c .before .code-of .ensures .0)
 
 pub pusha-spec : {M : Type 1} → statement M
-pusha-spec = tie.close (tie.spec (λ c κs. search needs) (λ c. search needs) (λ c κs. search needs) returns)
+pusha-spec = tie.close (tie.spec (λ c κs. search needs) (λ c. search needs) (λ c. search needs) (λ c κs. search needs) returns)
