@@ -8,20 +8,11 @@ ghost use Rattle.line.specs.steps.Packed.{chars, text};
 use crate::Written;
 use record::refusal;
 
-// How many characters a word holds.
+// How many characters a word holds: one for each eight of its binary digits, and one for those left. 71 is 64 and 7.
 fn count(word: u64) -> usize
     ensures { λ r. ⌜ (r ≡ length (chars word)) × (r ≤ 8) ⌝ }
 {
-    let mut rest = word;
-    let mut n: usize = 0;
-    while n < 8 {
-        if rest == 0 {
-            return n;
-        }
-        rest = rest / 256;
-        n += 1;
-    }
-    n
+    ((71 - u64::leading_zeros(word)) / 8) as usize
 }
 
 fn write_word(word: u64, out: &mut [u8]) -> usize
