@@ -50,13 +50,15 @@ sized_opcodes() {
 }
 
 # Of each function for C, in the order of crates.txt, its comment as "// ..." lines and then "fn NAME RETURNED; PARAMETER: TYPE; ...".
+# The small archive has some of them once more.
 functions() {
-    sed 's/:.*//' "$repo/crates.txt" | while read -r crate; do
-        [ ! -f "$repo/crates/$crate/src/lib.rt" ] || function_of "$repo/crates/$crate/src/lib.rt"
+    sed 's/:.*//' "$repo/crates.txt" | grep -vx m16c_small | while read -r crate; do
+        functions_of "$crate"
     done
 }
 
-function_of() {
+functions_of() {
+    [ -f "$repo/crates/$1/src/lib.rt" ] || return 0
     awk '
         /^\/\// && !on { comment = comment $0 "\n"; next }
         /^#\[no_mangle\]/ { on = 1; next }
@@ -66,7 +68,19 @@ function_of() {
             returned = text; sub(/^.*-> */, "", returned); sub(/ *$/, "", returned)
             sub(/^.* fn /, "", text); sub(/\(.*/, "", text)
             printf "%sfn %s %s; %s\n", comment, text, returned, parameters
-            exit
+            on = 0
+            text = comment = ""
+            next
         }
-        { gsub(/ +/, " "); text = text $0 }' "$1"
+        { gsub(/ +/, " "); text = text $0 }' "$repo/crates/$1/src/lib.rt"
+}
+
+# One header serves both archives: the small one's functions are declared as in the crates of their own.
+check_small() {
+    functions | grep '^fn ' >"$out/declared"
+    functions_of m16c_small | grep '^fn ' >"$out/small"
+    ! grep -vxFf "$out/declared" "$out/small" || {
+        echo "crates/m16c_small declares the functions above otherwise than the crates of that name" >&2
+        exit 1
+    }
 }
