@@ -1,5 +1,5 @@
 // The differential run: the port and the Rust on the same bytes, every field that the Rust has.
-// Here are the running, the counting and the decoder's strings; encoder.rs and sweeps.rs have the rest.
+// Here are the running, the counting and the decoder's strings; encoder.rs, sweeps.rs and replayed.rs have the rest.
 // usage: differ [--all]
 
 mod brute;
@@ -7,6 +7,7 @@ mod brute;
 #[path = "../bindings/rust/src/c.rs"]
 mod c;
 mod encoder;
+mod replayed;
 mod sweeps;
 
 use std::env;
@@ -36,6 +37,7 @@ const OPERANDS: [usize; 3] = [4, 5, 6];
 const IMM_WIDE: usize = 7;
 const DISPABS: usize = 8;
 const FIRST: usize = 9;
+const LENGTH: usize = 10;
 const MARKED: usize = 11;
 // What an accepted answer is free in, because the Rust does not have it, with the greatest number that fits.
 const FREE_FIELDS: [(usize, u32); 2] = [(FIRST, 0xFFFF), (MARKED, 1)];
@@ -351,7 +353,7 @@ fn main() -> ExitCode {
         }
     };
     let mut total = Tally::default();
-    for (what, kinds) in [("decode", KINDS), ("encode", encoder::KINDS), ("sweep", sweeps::KINDS)] {
+    for (what, kinds) in [("stored answers", replayed::KINDS), ("decode", KINDS), ("encode", encoder::KINDS), ("sweep", sweeps::KINDS)] {
         println!("{:>13} {:>13} {:>13}  {what}", "compared", "accepted", "different");
         for kind in kinds {
             let parts = if all { kind.all_parts } else { kind.quick_parts };

@@ -28,13 +28,13 @@ const RECORDS_IN_A_PART: usize = 5_000;
 
 /// How much of a buffer is passed in, and the place in it.
 #[derive(Clone, Copy)]
-struct Room {
+pub struct Room {
     length: usize,
     place: usize,
 }
 
 // For the kinds that are not about rooms.
-const WIDE_ROOM: Room = Room { length: 12, place: 3 };
+pub const WIDE_ROOM: Room = Room { length: 12, place: 3 };
 
 // The bytes passed in lie inside others, so that a byte written outside of them is seen.
 const AROUND: usize = 8;
@@ -74,7 +74,7 @@ fn encoded(record: &[u32], room: Room) -> Outcome {
     outcome
 }
 
-fn compare(tally: &mut Tally, record: &[u32], answer: Option<Spelling>, room: Room) {
+pub fn compare(tally: &mut Tally, record: &[u32], answer: Option<Spelling>, room: Room) {
     let (wanted, port) = (wanted(answer, room), encoded(record, room));
     tally.count(wanted.refusal == 0, wanted == port, || {
         let Room { length, place } = room;

@@ -19,15 +19,15 @@ const IMAGES_IN_A_PART: usize = 20;
 // ---- What is compared
 
 #[derive(PartialEq, Eq, Debug)]
-struct Swept {
-    refusal: u32,
-    count: usize,
-    place: usize,
-    starts: Vec<u16>,
+pub struct Swept {
+    pub refusal: u32,
+    pub count: usize,
+    pub place: usize,
+    pub starts: Vec<u16>,
 }
 
 // Stand in what is passed in before each call. The start is one that no image has.
-const NO_START: u16 = 0xDEAD;
+pub const NO_START: u16 = 0xDEAD;
 const UNWRITTEN: usize = 0xDEAD_BEEF;
 
 fn repeated(image: &[u8], room: usize) -> Swept {
@@ -50,7 +50,7 @@ fn repeated(image: &[u8], room: usize) -> Swept {
     swept
 }
 
-fn ported(image: &[u8], room: usize) -> Swept {
+pub fn ported(image: &[u8], room: usize) -> Swept {
     let mut swept = Swept { refusal: 0, count: UNWRITTEN, place: UNWRITTEN, starts: vec![NO_START; room] };
     let starts = swept.starts.as_mut_ptr();
     swept.refusal =

@@ -1,0 +1,100 @@
+// The stored answers, ../crates/replay/stdin, beside the port: oracle/README.md says what stands where in a line.
+
+use crate::brute::Spelling;
+use crate::encoder::{self, WIDE_ROOM};
+use crate::sweeps::{self, Swept, NO_START};
+use crate::{hex, ported, Kind, Tally, FIELDS};
+use crate::{DISPABS, FIRST, IMM_WIDE, LENGTH, MARKED, OPCODE, OPERANDS, SIZE, TAKEN, WIDTH};
+
+#[rustfmt::skip]
+pub const KINDS: &[Kind] = &[
+    Kind { name: "strings to decode", quick_parts: 1, all_parts: 1, run_part: strings },
+    Kind { name: "records to encode", quick_parts: 1, all_parts: 1, run_part: records },
+    Kind { name: "images to sweep", quick_parts: 1, all_parts: 1, run_part: images },
+];
+
+const STORED: &str = include_str!("../crates/replay/stdin");
+
+/// The words of the stored lines that begin so, that beginning left out.
+fn lines(begins: fn(char) -> bool) -> impl Iterator<Item = Vec<&'static str>> {
+    STORED.lines().filter(move |line| line.starts_with(begins)).map(|line| line.split(' ').collect())
+}
+
+fn number(text: &str) -> u32 {
+    u32::from_str_radix(text, 16).expect("a stored number is hex")
+}
+
+/// The numbers of so many digits each, one behind the other in a word.
+fn numbers<const N: usize>(text: &str, digits: [usize; N]) -> [u32; N] {
+    let mut rest = text;
+    digits.map(|count| {
+        let (digits, behind) = rest.split_at(count);
+        rest = behind;
+        number(digits)
+    })
+}
+
+/// The first `count` bytes of those in a word.
+fn bytes(text: &str, count: u32) -> Vec<u8> {
+    (0..count as usize).map(|k| number(&text[2 * k..2 * k + 2]) as u8).collect()
+}
+
+fn strings(_part: usize, tally: &mut Tally) {
+    for words in lines(|first| first.is_ascii_digit()) {
+        let [count, string, refusal, taken, names, imm_wide, dispabs, length] = words[..] else {
+            panic!("a stored string has eight words: {words:?}");
+        };
+        let [opcode, size, op0, op1, op2] = numbers(names, [2, 1, 2, 2, 2]);
+        let mut wanted = [0; FIELDS];
+        wanted[TAKEN] = number(taken);
+        wanted[OPCODE] = opcode;
+        wanted[SIZE] = size;
+        for (place, operand) in OPERANDS.into_iter().zip([op0, op1, op2]) {
+            wanted[place] = operand;
+        }
+        wanted[IMM_WIDE] = number(imm_wide);
+        wanted[DISPABS] = number(dispabs);
+        wanted[LENGTH] = number(length);
+        let string = bytes(string, number(count));
+        let mut port = ported(&string, 0);
+        // What the Rust does not have is not stored.
+        for free in [WIDTH, FIRST, MARKED] {
+            port.fields[free] = 0;
+        }
+        let same = port.refusal == number(refusal) && port.fields == wanted;
+        tally.count(number(refusal) == 0, same, || {
+            format!("{}\n  stored {words:?}\n  port {} {:X?}\n", hex(&string), port.refusal, port.fields)
+        });
+    }
+}
+
+fn records(_part: usize, tally: &mut Tally) {
+    for words in lines(|first| first == 'E') {
+        let [names, imm_wide, fields, refusal, length, encoding] = words[..] else {
+            panic!("a stored record has six words: {words:?}");
+        };
+        let [opcode, size, width, op0, op1, op2] = numbers(&names[1..], [2, 1, 1, 2, 2, 2]);
+        let [dispabs, first] = numbers(fields, [4, 4]);
+        let record = [0, opcode, size, width, op0, op1, op2, number(imm_wide), dispabs, first, 0, 0];
+        let wanted = (number(refusal) == 0).then(|| Spelling::of(&bytes(encoding, number(length))));
+        encoder::compare(tally, &record, wanted, WIDE_ROOM);
+    }
+}
+
+fn images(_part: usize, tally: &mut Tally) {
+    for words in lines(|first| first == 'S') {
+        let [image, count, place, refusal, starts] = words[..] else {
+            panic!("a stored image has five words: {words:?}");
+        };
+        let [length] = numbers(&image[1..3], [2]);
+        let image = bytes(&image[3..], length);
+        let is_start = |place: &u16| number(starts) >> (15 - place) & 1 == 1;
+        let mut starts: Vec<u16> = (0..16).filter(is_start).collect();
+        starts.resize(image.len(), NO_START);
+        let wanted = Swept { refusal: number(refusal), count: number(count) as usize, place: number(place) as usize, starts };
+        let port = sweeps::ported(&image, image.len());
+        tally.count(wanted.refusal == 0, port == wanted, || {
+            format!("{}\n  stored {wanted:X?}\n  port   {port:X?}\n", hex(&image))
+        });
+    }
+}
