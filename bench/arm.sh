@@ -21,7 +21,7 @@ SCRIPT
 }
 
 make_archives_and_keep_modules() {
-    for crate in $c_crates; do
+    for crate in $(crates_of fast); do
         RATTLE_HOME=$shadow rt staticlib "$crate" || return
         mv "$modules/last.bc" "$modules/$crate.bc" || return
     done
@@ -35,7 +35,7 @@ link_all_but() {
 
 port_for_arm() {
     rm -f "$work/arm.a"
-    for crate in $c_crates; do
+    for crate in $(crates_of fast); do
         module_for_arm "$crate"
         "$tools/bin/llvm-ar" -rc "$work/arm.a" "$modules/$crate.o"
     done

@@ -92,8 +92,8 @@ const IMAGE_TOO_LONG: u32 = 7;
 ///
 /// # Safety
 /// `image` has `image_len` bytes to read, `starts` has `starts_len` numbers to write, `count` and `place` are to be written.
-#[cfg(any(peer = "sweep_call", peer = "sweep_loop"))]
-#[cfg_attr(peer = "sweep_call", export_name = "rust_sweep_call")]
+#[cfg(any(peer = "sweep_call", peer = "sweep_loop", peer = "both"))]
+#[cfg_attr(any(peer = "sweep_call", peer = "both"), export_name = "rust_sweep_call")]
 #[cfg_attr(peer = "sweep_loop", export_name = "rust_sweep_loop")]
 #[inline(never)]
 pub unsafe extern "C" fn rust_sweep(
@@ -135,8 +135,8 @@ fn repeat(image: &[u8], starts: &mut [u16]) -> (u32, usize, usize) {
 }
 
 // In the loop the compiler may drop what a sweep has no use for; behind a call the whole record is made, as the port's is.
-#[cfg_attr(peer = "sweep_call", inline(never))]
-#[cfg_attr(not(peer = "sweep_call"), inline(always))]
+#[cfg_attr(any(peer = "sweep_call", peer = "both"), inline(never))]
+#[cfg_attr(not(any(peer = "sweep_call", peer = "both")), inline(always))]
 fn decode_once(bytes: &[u8], inst: &mut Instruction) -> (u8, usize) {
     let mut reader = CountingReader { bytes, taken: 0 };
     let refusal = decode_counted(inst, &mut reader).err().unwrap_or(ACCEPTED);
@@ -144,7 +144,7 @@ fn decode_once(bytes: &[u8], inst: &mut Instruction) -> (u8, usize) {
 }
 
 /// The nine functions for their size alone: they fill in their own record, and nobody makes numbers of it.
-#[cfg(peer = "nine")]
+#[cfg(any(peer = "nine", peer = "both"))]
 #[no_mangle]
 pub fn rust_nine(bytes: &[u8], inst: &mut Instruction) -> (u8, usize) {
     decode_once(bytes, inst)

@@ -8,9 +8,9 @@ mod given;
 pub use given::rust_decode;
 #[cfg(peer = "loop")]
 pub use given::rust_decode_at_each;
-#[cfg(peer = "nine")]
+#[cfg(any(peer = "nine", peer = "both"))]
 pub use given::rust_nine;
-#[cfg(any(peer = "sweep_call", peer = "sweep_loop"))]
+#[cfg(any(peer = "sweep_call", peer = "sweep_loop", peer = "both"))]
 pub use given::rust_sweep;
 
 use core::hint::black_box;

@@ -1,28 +1,42 @@
 # Sourced by run: code sizes.
 
-# A line "bytes TASK - WHOSE CODE CONSTANTS" for each part of the library, and for the Rust that does the same.
+# A line "bytes FUNCTION - WHOSE CODE CONSTANTS" for each function and for all together, of the port's archives and of the Rust.
 measure_sizes() {
-    code_size "decode - rattle" m16c_decode "$library"
-    code_size "decode - rust_nine" rust_nine "$work/x86/peer_nine.o"
-    code_size "decode - rust_call" rust_decode "$work/x86/peer_call.o"
-    code_size "encode - rattle" m16c_encode "$library"
-    code_size "sweep - rattle" m16c_sweep "$library"
-    code_size "sweep - rust_call" rust_sweep_call "$work/x86/peer_sweep_call.o"
-    code_size "sweep - rust_loop" rust_sweep_loop "$work/x86/peer_sweep_loop.o"
-    code_size "line - rattle" m16c_line "$library"
+    archive_sizes fast "$fast"
+    if [ -n "$small" ]; then archive_sizes small "$small"; fi
+    rust_sizes 3
+    rust_sizes z
 }
 
-# How big is what ENTRY needs of the given objects: linked alone, with nothing kept that ENTRY does not reach, and read off the map.
+archive_sizes() {
+    for function in $c_functions; do
+        code_size "${function#m16c_} - $1" "$2" "$function"
+    done
+    code_size "together - $1" "$2" $c_functions
+}
+
+# At a level of optimisation. The Rust has decoding and sweeping.
+rust_sizes() {
+    for peer in nine sweep_call both; do
+        build_peer "$peer" "$1" --emit "obj=$out/$peer-$1.o"
+    done
+    code_size "decode - rust_$1" "$out/nine-$1.o" rust_nine
+    code_size "sweep - rust_$1" "$out/sweep_call-$1.o" rust_sweep_call
+    code_size "together - rust_$1" "$out/both-$1.o" rust_nine rust_sweep_call
+}
+
+# How big is what functions need of an object or archive: linked alone, with nothing kept that they do not reach, and read off the map.
 # Code (.text) and constants (.rodata) count. Left out: unwinding tables, and what only a panic needs, which is in the sections
 # of formatting and panicking functions, in strings (.rodata.str) and in unnamed constants (.rodata..Lanon); should a table of the
 # Rust be among these last, the Rust is shown smaller than it is.
+# usage: code_size NAME OBJECT FUNCTION..
 code_size() {
     name=$1
-    entry=$2
+    object=$2
     shift 2
-    echo "{ global: $entry; local: *; };" >"$work/$entry.version"
-    "$tools/bin/ld.lld" -shared --gc-sections --undefined="$entry" --version-script="$work/$entry.version" \
-        -Map="$work/$entry.map" -o "$work/$entry.so" "$@"
+    printf '{ global:%s local: *; };\n' "$(printf ' %s;' "$@")" >"$work/version"
+    "$tools/bin/ld.lld" -shared --gc-sections $(printf ' --undefined=%s' "$@") --version-script="$work/version" \
+        -Map="$work/map" -o "$work/sized.so" "$object"
     awk -v name="$name" '
         function hex(text,  k, value) {
             for (k = 1; k <= length(text); k++) value = 16 * value + index("0123456789abcdef", substr(text, k, 1)) - 1
@@ -32,5 +46,5 @@ code_size() {
         section ~ /fmt|panicking|^\.rodata\.str|^\.rodata\.\.Lanon/ { next }
         section ~ /^\.text/ { text += hex($3) }
         section ~ /^\.rodata/ { rodata += hex($3) }
-        END { print "bytes", name, text, rodata }' "$work/$entry.map"
+        END { print "bytes", name, text, rodata }' "$work/map"
 }

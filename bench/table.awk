@@ -1,5 +1,6 @@
 # The one table of the bench, and its verdicts; exit 1 if a limit is not kept.
-# Lines: "KIND TASK WORKLOAD WAY UNITS AMOUNT" of counted instructions (insns) and times (ns), "bytes TASK - WHOSE CODE CONSTANTS".
+# Lines: "KIND TASK WORKLOAD WAY UNITS AMOUNT" of counted instructions (insns; small: with the small archive) and times (ns), and
+# "bytes TASK - WHOSE CODE CONSTANTS".
 # Set `rows` to a pattern of the workloads that are shown.
 
 BEGIN {
@@ -9,23 +10,30 @@ BEGIN {
     beside["insns encode"] = "decode empty_call"
     beside["ns decode"] = beside["ns sweep"] = beside["insns sweep"] = "rust_call rust_loop"
     beside["ns encode"] = "decode"
-    beside["bytes decode"] = "rust_nine rust_call"
-    beside["bytes sweep"] = "rust_call rust_loop"
-    limit["insns decode rust_call"] = limit["bytes decode rust_nine"] = 1
+    beside["small decode"] = beside["small encode"] = beside["small sweep"] = beside["small line"] = "fast"
+    limit["insns decode rust_call"] = limit["bytes decode rust_3"] = 1
     limit["insns encode decode"] = 3
     limit["insns sweep rust_call"] = 1.1
+    limit["small decode fast"] = limit["small encode fast"] = limit["small sweep fast"] = limit["small line fast"] = 1.5
+    most["together small"] = 24000
+    # Whose code is measured in bytes, in the order shown.
+    split("rust_3 rust_z fast small", sized, " ")
     spelled["rust_call"] = "the Rust, called"
     spelled["rust_loop"] = "the Rust, in the loop"
-    spelled["rust_nine"] = "the nine Rust functions"
+    spelled["fast"] = "the fast archive"
+    spelled["rust_3"] = "Rust, 3"
+    spelled["rust_z"] = "Rust, z"
     spelled["decode"] = "decoding the same"
     spelled["empty_call"] = "a call that does nothing"
     title["insns"] = "x86-64 instructions a unit, the same on every run and machine"
-    title["bytes"] = "bytes of x86-64 code and constants"
+    title["small"] = "the same with the small archive"
+    title["bytes"] = "bytes of x86-64 code and constants, of the Rust at two levels of optimisation and of both archives"
     if (title_of_times != "") title["ns"] = title_of_times
 }
 
 { kind = $1; task = $2; work = $3; way = $4 }
 kind == "bytes" { amount[kind, task, work, way] = $5 + $6 }
+kind == "small" { has_small = 1 }
 kind != "bytes" { units[task, work] = $5; amount[kind, task, work, way] = $6 }
 !((kind, task, work) in seen) { seen[kind, task, work]; works[kind, task] = works[kind, task] " " work }
 
@@ -33,17 +41,16 @@ function loop_of(way) { return way == "decode" ? "decode_loop" : "empty_loop" }
 
 # The amount a unit; the loop with nothing in it is taken off.
 function each(kind, task, work, way) {
-    if (kind == "bytes") return amount[kind, task, work, way]
+    if (way == "fast") return each("insns", task, work, "rattle")
     return (amount[kind, task, work, way] - amount[kind, task, work, loop_of(way)]) / units[task, work]
 }
 
-function row(kind, task, work, other,  format, own, ratio) {
-    format = kind == "bytes" ? "%10d" : "%10.2f"
+function row(kind, task, work, other,  own, ratio) {
     own = each(kind, task, work, "rattle")
-    printf "  %-6s %-5s %6s " format, task, work, (kind == "bytes" ? "" : units[task, work]), own
+    printf "  %-6s %-5s %6s %10.2f", task, work, units[task, work], own
     if (other == "") { print ""; return }
     ratio = own / each(kind, task, work, other)
-    printf " " format " %7.3f  %s\n", each(kind, task, work, other), ratio, spelled[other]
+    printf " %10.2f %7.3f  %s\n", each(kind, task, work, other), ratio, spelled[other]
     judge(kind, task, work, other, ratio)
 }
 
@@ -67,21 +74,51 @@ function section(kind,  t, w, o, list, others) {
     }
 }
 
+# Each function, and all that one has; a blank where there is none.
+function sizes(  t, w) {
+    print title["bytes"]
+    printf "  %-8s", ""
+    for (w = 1; w in sized; w++) printf " %10s", (sized[w] in spelled && sized[w] ~ /^rust/ ? spelled[sized[w]] : sized[w])
+    print ""
+    for (t = 1; t in tasks; t++) size_row(tasks[t])
+    size_row("together")
+}
+
+function size_row(task,  w) {
+    printf "  %-8s", task
+    for (w = 1; w in sized; w++) printf " %10s", amount["bytes", task, "-", sized[w]]
+    print ""
+}
+
 function verdict(key, text,  bad) {
     bad = key in missed || !(key in ratios)
     failures += bad
     printf "%s: at most %.1f, is %s: %s\n", text, limit[key], (key in ratios ? ratios[key] : "not measured"), (bad ? "NOT MET" : "met")
 }
 
+function size_verdict(key, text,  part, bytes, bad) {
+    split(key, part, " ")
+    bytes = amount["bytes", part[1], "-", part[2]]
+    bad = bytes == "" || bytes > most[key]
+    failures += bad
+    printf "%s: at most %d bytes, is %s: %s\n", text, most[key], (bytes == "" ? "not measured" : bytes), (bad ? "NOT MET" : "met")
+}
+
 END {
     printf "  %-6s %-5s %6s %10s %10s %7s\n", "", "", "units", "rattle", "beside", "ratio"
     section("insns")
+    if (has_small) section("small")
     if ("ns" in title) section("ns")
-    section("bytes")
+    sizes()
+    judge("bytes", "decode", "-", "rust_3", amount["bytes", "decode", "-", "fast"] / amount["bytes", "decode", "-", "rust_3"])
     print "limits"
     verdict("insns decode rust_call", "  decoding, to the Rust called")
     verdict("insns encode decode", "  encoding, to decoding the same")
     verdict("insns sweep rust_call", "  the sweep, to the Rust called")
-    verdict("bytes decode rust_nine", "  the decoder\047s size, to that of the nine Rust functions")
+    verdict("bytes decode rust_3", "  the decoder\047s size, to that of the nine Rust functions")
+    if (has_small) {
+        for (t = 1; t in tasks; t++) verdict("small " tasks[t] " fast", "  " tasks[t] " of the small archive, to the fast one")
+        size_verdict("together small", "  the small archive")
+    }
     exit failures > 0
 }
