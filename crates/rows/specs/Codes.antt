@@ -48,8 +48,11 @@ abbrev pub sizeT : ℕ → ℕ
 sizeT c = pick (ltb c 6) 1 (sizeG c)
 
 -- register pairs at codes 0, 1 and 4; 2, 3 and 5 name nothing and are refused; from 6 on as G
+abbrev pub pairNames : List Operand
+pairNames = R2R0 ∷ R3R1 ∷ Nothing ∷ Nothing ∷ A1A0 ∷ Nothing ∷ []
+
 abbrev pub nameP : Width → ℕ → Operand
-nameP w c = getD (R2R0 ∷ R3R1 ∷ Nothing ∷ Nothing ∷ A1A0 ∷ Nothing ∷ []) c (nameG w c)
+nameP w c = getD pairNames c (nameG w c)
 
 -- Long, J(c): pairs, C and D are Disp20 with three bytes, the rest as G
 abbrev pub nameJ : ℕ → Operand

@@ -14,14 +14,14 @@ use Rattle.record.specs.declared.Size.the-variants as size
 use Rattle.record.specs.declared.Width.{Width}
 use Rattle.record.specs.declared.Width.the-variants.{None, B, W}
 use Rattle.record.specs.declared.Operand.{Operand}
-use Rattle.record.specs.declared.Operand.the-variants.{Nothing, Imm4, R0L, R0, R2R0, R3R1, A1A0, Abs20, «Deref_A0», «Deref_A1», «Disp8_A0»}
+use Rattle.record.specs.declared.Operand.the-variants.{Nothing, Imm4, R0L, R0, Abs20, «Deref_A0», «Deref_A1», «Disp8_A0»}
 use Rattle.record.specs.declared.Operand.the-variants.{«Disp8_A1», «Disp8_SB», «Disp8_SP», «Disp16_A0», «Disp16_A1», «Disp16_SB», «Disp20_A0», «Disp20_A1», SP}
 use Rattle.record.specs.Numbers.{opcodeNo}
 use Rattle.record.specs.declared.Key.{Key}
 use Rattle.record.specs.declared.fields.Field.{Field}
 use Rattle.record.specs.declared.fields.Field.the-variants.{Nowhere as nowhere, Wide as wide, Short as short, Early as early}
 use Rattle.record.specs.Same.{sameName, fieldOf, key}
-use Rattle.rows.specs.Codes.{byteNames, wordNames, bitNames, controlNames}
+use Rattle.rows.specs.Codes.{byteNames, wordNames, bitNames, pairNames, controlNames}
 use Rattle.rows.specs.Rows.{document01}
 use Rattle.encode_choice.specs.declared.Asked.{Asked}
 use Rattle.encode_rules.specs.Says.{Found}
@@ -57,7 +57,7 @@ place (x ∷ xs) o = pick (sameName x o) 0 (suc (place xs o))
 
 -- J's names: pairs, Disp20 at C and D, else those of G
 abbrev pub longs : List Operand
-longs = R2R0 ∷ R3R1 ∷ Nothing ∷ Nothing ∷ A1A0 ∷ Nothing ∷ (take 6 (drop 6 wordNames) ++ («Disp20_A0» ∷ «Disp20_A1» ∷ drop 14 wordNames))
+longs = pairNames ++ (take 6 (drop 6 wordNames) ++ («Disp20_A0» ∷ «Disp20_A1» ∷ drop 14 wordNames))
 
 -- the lists of document 01 one behind the other, sixteen names each: a name that two of them have has one code in both
 abbrev pub listed : List Operand
