@@ -48,21 +48,8 @@ pub fn accept(
 pub fn refuse(no: u8, taken: usize) -> Answer
     ensures { λ r. ⌜ r ≡ refusal no taken ⌝ }
 {
-    let r = Record {
-        imm_wide: 0,
-        dispabs: 0,
-        first: 0,
-        length: 0,
-        opcode: Opcode::NOP,
-        size: Size::None,
-        width: Width::None,
-        op0: Operand::Nothing,
-        op1: Operand::Nothing,
-        op2: Operand::Nothing,
-        marked: false,
-    };
     Answer {
-        inst: r,
+        inst: record::BLANK,
         taken: taken,
         refusal: no,
     }

@@ -1,5 +1,5 @@
 -- Document 01, "Same instruction": what counts of a record, and that two records are the same if it agrees.
-use Prim.Native.Nat.{ℕ}
+use Prim.Native.Nat.{ℕ, zero, suc}
 use mathlib.Core.Path.{_≡_}
 use mathlib.Core.Bool.{Bool, true, false}
 use mathlib.Core.List.{List, [], _∷_}
@@ -65,6 +65,13 @@ field0 a b = shared (fieldOf a) (fieldOf b) (pick (sameName a «Disp8_SP») fals
 
 abbrev pub field1 : Operand → Operand → Field
 field1 a b = shared (fieldOf b) (fieldOf a) (sameName a «Disp8_SP»)
+
+-- the field of operand k's number; there are operands 0, 1 and 2, and a third takes its name's field
+abbrev pub fieldAt : Record → ℕ → Field
+fieldAt r zero = field0 (r .op0) (r .op1)
+fieldAt r (suc zero) = field1 (r .op0) (r .op1)
+fieldAt r (suc (suc zero)) = fieldOf (r .op2)
+fieldAt r (suc (suc (suc k))) = nowhere
 
 abbrev pub valueOf : Field → Record → ℕ
 valueOf nowhere r = 0

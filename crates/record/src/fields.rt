@@ -1,6 +1,6 @@
 // Where a record holds the number of each operand.
 ghost use mathlib.Core.Path.{_≡_};
-ghost use Rattle.record.specs.Same.{sameName, fieldOf, shared, valueOf, key};
+ghost use Rattle.record.specs.Same.{sameName, fieldOf, shared, fieldAt, valueOf, key};
 use crate::Operand;
 use crate::Record;
 use crate::numbers;
@@ -91,7 +91,28 @@ pub fn shared_field(own: Operand, other: Operand, others: bool) -> Field
     }
 }
 
-fn value_of(f: Field, r: Record) -> u32
+// The field of operand k's number. There are operands 0, 1 and 2.
+pub fn field_at(r: Record, k: usize) -> Field
+    ensures { λ f. ⌜ f ≡ fieldAt r k ⌝ }
+{
+    let op0 = r.op0;
+    let op1 = r.op1;
+    let op2 = r.op2;
+    let on_stack = same_name(op0, Operand::Disp8_SP);
+    if k == 0 {
+        return shared_field(op0, op1, !on_stack);
+    }
+    if k == 1 {
+        return shared_field(op1, op0, on_stack);
+    }
+    if k == 2 {
+        return field_of(op2);
+    }
+    Field::Nowhere
+}
+
+// What a field of a record holds.
+pub fn value_of(f: Field, r: Record) -> u32
     ensures { λ n. ⌜ n ≡ valueOf f r ⌝ }
 {
     match f {
@@ -102,17 +123,13 @@ fn value_of(f: Field, r: Record) -> u32
     }
 }
 
-// The numbers of a record's three operands.
+// What the fields of a record's three operands hold.
 pub fn numbers_of(r: Record) -> Numbers
     ensures { λ n. ⌜ (n .number0 ≡ key r .number0) × (n .number1 ≡ key r .number1) × (n .number2 ≡ key r .number2) ⌝ }
 {
-    let op0 = r.op0;
-    let op1 = r.op1;
-    let op2 = r.op2;
-    let on_stack = same_name(op0, Operand::Disp8_SP);
     Numbers {
-        number0: value_of(shared_field(op0, op1, !on_stack), r),
-        number1: value_of(shared_field(op1, op0, on_stack), r),
-        number2: value_of(field_of(op2), r),
+        number0: value_of(field_at(r, 0), r),
+        number1: value_of(field_at(r, 1), r),
+        number2: value_of(field_at(r, 2), r),
     }
 }

@@ -3,7 +3,8 @@
 
 pub mod numbers; // the number of each name
 pub mod names; // the name of each number
-pub mod fields; // the number of each operand
+pub mod fields; // where the number of each operand is
+pub mod signed; // the number of each operand as it is counted
 pub mod refusal; // what a function returns
 
 pub enum Opcode {
@@ -198,6 +199,21 @@ pub struct Record {
     // The row reads this code otherwise than the maker's manual, or document 01 stars it.
     pub marked: bool,
 }
+
+// What a refusal returns for a record.
+pub const BLANK: Record = Record {
+    imm_wide: 0,
+    dispabs: 0,
+    first: 0,
+    length: 0,
+    opcode: Opcode::NOP,
+    size: Size::None,
+    width: Width::None,
+    op0: Operand::Nothing,
+    op1: Operand::Nothing,
+    op2: Operand::Nothing,
+    marked: false,
+};
 
 // All that counts of a record: two records are the same instruction if these agree.
 pub struct Key {

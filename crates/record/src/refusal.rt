@@ -9,7 +9,7 @@ pub const INVALID_OPERAND: u8 = 3; // decoding: the instruction does not take th
 
 pub const FIRST_BYTE_OUTSIDE: u8 = 4; // decoding: not one of the twelve first bytes that are decoded here
 
-pub const NO_STRING: u8 = 5; // encoding: no bytes decode to this instruction, but for those of marked rows
+pub const NO_STRING: u8 = 5; // encoding: no bytes decode to this instruction, but for those of marked rows; asked for a number: there is none
 
 pub const TOO_LITTLE_ROOM: u8 = 6; // what was passed in for the result is too short
 
