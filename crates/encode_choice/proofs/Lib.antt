@@ -3,6 +3,7 @@ pub mod Tested
 pub mod Formed
 pub mod Chosen
 pub mod Encoded
+pub mod NoBytes
 pub mod Bench
 pub mod Whole
 pub mod Lookups
