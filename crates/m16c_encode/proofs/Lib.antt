@@ -1,2 +1,1 @@
-pub mod Valid
 pub mod Outcomes

@@ -1,31 +1,24 @@
--- `m16c_encode::m16c_encode` meets its contract.
+-- `m16c_encode::m16c_encode` meets its contract: the record that the numbers make is encoded.
 -- Assumes nothing.
-use mathlib.Core.Path.{refl, sym, _∙_}
-use mathlib.Core.Bool.{false≢true}
+use mathlib.Core.Path.{sym, _∙_}
 use borrow.Author.Needs.{needs}
-use Rattle.m16c_encode.proofs.Valid.{bounded}
+use borrow.Author.Tests.{not-true}
+use Rattle.m16c_encode.proofs.Outcomes.{refused}
 use Rattle.m16c_encode.proofs.m16c_encode.Statement.{statement}
 use Rattle.m16c_encode.proofs.m16c_encode.Tie as tie
 
-record-of-requires : tie.Need-record-of-requires
-record-of-requires c κs =
-    let b = bounded _ (sym (c .before .is-valid .ensures) ∙ c .if1 .taken) in
-    (b .long, b .dispabs, b .first)
-
 returns : tie.Need-returns
 returns c =
-    let e = c .before .before .before in
-    let r = e .before .before in
-    let v = r .before .before in
-    record {
-      record-made = λ _. rw (r .record-of .ensures) at (e .encode .ensures);
-      none-made = λ none. absurd (false≢true (sym none ∙ sym (v .is-valid .ensures) ∙ r .before .if1 .taken));
-    }
+    let test = c .before in
+    let start = test .before .before .before .args in
+    refused (start .numbers .now) (start .buf .now) (start .place) (sym (test .is-record .ensures) ∙ not-true (test .is-record .result) (c .if1 .taken))
 
 returns-2 : tie.Need-returns-2
 returns-2 c =
-    let v = c .before in
-    record { record-made = λ made. absurd (false≢true (sym (c .if1 .left) ∙ v .is-valid .ensures ∙ made)); none-made = λ _. refl }
+    let encoded = c .before .before .before in
+    rw (encoded .before .before .record-of .ensures) at (encoded .encode .ensures)
 
 pub m16c-encode-spec : {M : Type 1} → statement M
-m16c-encode-spec = tie.close (tie.spec (λ c κs. search needs) record-of-requires (λ c κs. search needs) (λ c. search needs) (λ c. search needs) returns returns-2)
+m16c-encode-spec =
+    tie.close
+    (tie.spec (λ c κs. search needs) (λ c. search needs) returns (λ c κs. search needs) (λ c κs. search needs) (λ c. search needs) (λ c. search needs) returns-2)

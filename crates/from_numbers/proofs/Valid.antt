@@ -9,7 +9,7 @@ use lib.Dec.{leb}
 use borrow.Author.Tests.{leb-true, ltb-true, le-leb, lt-ltb}
 use Rattle.laws.specs.Choice.{both}
 use Rattle.record.specs.Names.{opcodes, sizes, widths, operands}
-use Rattle.m16c_encode.specs.Numbers.{below, valid}
+use Rattle.from_numbers.specs.Made.{below, valid}
 
 pub record Bounded (ns : List ℕ) : Type 0 where
   pub long : 12 ≤ length ns

@@ -1,10 +1,10 @@
--- `m16c_encode::is_valid` meets its contract: a test that fails is a bound that does not hold.
+-- `from_numbers::is_record` meets its contract: a test that fails is a bound that does not hold.
 -- Assumes nothing.
 use native.Mathlib.Omega.{arith}
 use borrow.Author.Needs.{needs}
-use Rattle.m16c_encode.proofs.Valid.{refused, accepted}
-use Rattle.m16c_encode.proofs.is_valid.Statement.{statement}
-use Rattle.m16c_encode.proofs.is_valid.Tie as tie
+use Rattle.from_numbers.proofs.Valid.{refused, accepted}
+use Rattle.from_numbers.proofs.is_record.Statement.{statement}
+use Rattle.from_numbers.proofs.is_record.Tie as tie
 
 valid : tie.Need-returns-10
 valid c = accepted _ (record {
@@ -19,8 +19,8 @@ valid c = accepted _ (record {
   first = omega arith;
 })
 
-pub is-valid-spec : {M : Type 1} → statement M
-is-valid-spec =
+pub is-record-spec : {M : Type 1} → statement M
+is-record-spec =
     tie.close
     (tie.spec (λ c. refused _ (λ b. omega arith)) (λ c. search needs) (λ c. refused _ (λ b. omega arith)) (λ c. search needs) (λ c. refused _ (λ b. omega arith))
     (λ c. search needs) (λ c. refused _ (λ b. omega arith)) (λ c. search needs) (λ c. refused _ (λ b. omega arith)) (λ c. search needs) (λ c. refused _ (λ b. omega arith))

@@ -1,4 +1,4 @@
--- `m16c_encode::record_of` meets its contract.
+-- `from_numbers::made_of` meets its contract.
 -- Assumes nothing.
 use Prim.Native.Nat.{ℕ}
 use mathlib.Core.Path.{_≡_}
@@ -9,8 +9,8 @@ use Rattle.record.specs.declared.Opcode.{Opcode}
 use Rattle.record.specs.declared.Size.{Size}
 use Rattle.record.specs.declared.Width.{Width}
 use Rattle.record.specs.declared.Operand.{Operand}
-use Rattle.m16c_encode.proofs.record_of.Statement.{statement}
-use Rattle.m16c_encode.proofs.record_of.Tie as tie
+use Rattle.from_numbers.proofs.made_of.Statement.{statement}
+use Rattle.from_numbers.proofs.made_of.Tie as tie
 
 abbrev made : ℕ → ℕ → ℕ → Opcode → Size → Width → Operand → Operand → Operand → Record
 made i d f o z w p q r = record {
@@ -41,8 +41,8 @@ returns c =
     let opcode = size .before .before in
     alike _ _ _ (opcode .opcode-at .ensures) (size .size-at .ensures) (width .width-at .ensures) (op0 .operand-at .ensures) (op1 .operand-at2 .ensures) (c .operand-at3 .ensures)
 
-pub record-of-spec : {M : Type 1} → statement M
-record-of-spec =
+pub made-of-spec : {M : Type 1} → statement M
+made-of-spec =
     tie.close
     (tie.spec (λ c. search needs) (λ c. search needs) (λ c. search needs) (λ c. search needs) (λ c. search needs) (λ c. search needs) (λ c κs. search needs) (λ c. search needs)
     (λ c κs. search needs) (λ c. search needs) (λ c κs. search needs) (λ c. search needs) (λ c κs. search needs) (λ c. search needs) (λ c κs. search needs) (λ c. search needs)
