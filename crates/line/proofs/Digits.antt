@@ -3,12 +3,14 @@
 use Prim.Native.Nat.{ℕ, zero, suc, _+_, _*_, _/_, _%_, _^_, _<_, _≤_}
 use mathlib.Core.Path.{_≡_, refl, sym, ap, _∙_}
 use mathlib.Core.Bool.{Bool, true, false}
+use mathlib.Core.List.{[]}
+use lib.IntN.{ℤ, pos, negsuc}
 use native.Mathlib.Omega.{arith}
 use native.Mathlib.Nat.{pow-suc, pow-le-pow-right, div-div-eq-div-mul, not-suc-le-zero}
 use lib.Dec.{ltb}
 use borrow.Author.Tests.{lt-ltb, le-ltb, ltb-true, ltb-false}
 use Rattle.line.specs.Characters.{digit, hex}
-use Rattle.line.specs.Line.{equals}
+use Rattle.line.specs.Line.{signText, equals}
 use Rattle.line.specs.steps.Packed.{pack}
 
 pub low : (d : ℕ) → d < 10 → 48 + d ≡ digit d
@@ -47,7 +49,12 @@ five n v h =
 pub further : (n v : ℕ) → v / 16 ^ n / 16 ≡ v / 16 ^ suc n
 further n v = div-div-eq-div-mul v (16 ^ n) 16 ∙ ap (λ m. v / m) (sym (pow-suc 16 n))
 
--- a number behind its `=`
-pub numbered : (n v : ℕ) → 0 < n → 0x3D + 256 * pack (hex n v) ≡ pack (equals n v)
+-- a number behind its `=`, without a sign and with one
+pub numbered : (n v : ℕ) → 0 < n → 0x3D + 256 * pack (hex n v) ≡ pack (equals n [] v)
 numbered zero v h = absurd (not-suc-le-zero h)
 numbered (suc n) v h = refl
+
+pub signed : (n v : ℕ) (z : ℤ) → 0 < n → 0x3D + 256 * (pack (signText z) + 256 * pack (hex n v)) ≡ pack (equals n (signText z) v)
+signed zero v z h = absurd (not-suc-le-zero h)
+signed (suc n) v (pos m) h = refl
+signed (suc n) v (negsuc m) h = refl

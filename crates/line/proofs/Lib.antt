@@ -1,4 +1,5 @@
 pub mod Digits
+pub mod Signs
 pub mod Packing
 pub mod Unpacked
 pub mod Spelling

@@ -5,6 +5,7 @@ use mathlib.Core.Path.{_≡_, sym, ap, _∙_}
 use mathlib.Core.List.{List, [], _∷_, _++_, map, append-assoc, append-nil}
 use lib.Dec.{T}
 use native.Mathlib.Omega.{arith}
+use lib.IntN.{ℤ, natAbs}
 use lib.ListN.{length, take-append-drop}
 use Rattle.record.specs.declared.Record.{Record}
 use Rattle.record.specs.declared.Size.{Size}
@@ -12,7 +13,7 @@ use Rattle.record.specs.declared.Size.the-variants as size
 use Rattle.record.specs.declared.Width.{Width}
 use Rattle.record.specs.declared.Width.the-variants as width
 use Rattle.record.specs.declared.Operand.{Operand}
-use Rattle.record.specs.Same.{key}
+use Rattle.record.specs.Signed.{isSigned, numberAt}
 use Rattle.line.specs.Characters.{spelled}
 use Rattle.line.specs.Line.{widthText, opcodeText, sizeText, shown, digitsOf, numberText, operandText, fromWidth, lineOf, endText, refusedText}
 use Rattle.line.specs.steps.Packed.{pack, text, firstEight, afterEight, placeText, lengthText, parts, endParts, refusedParts}
@@ -30,29 +31,30 @@ size-wordy size.B = tt
 size-wordy size.W = tt
 size-wordy size.L = tt
 
-number-wordy : (a : Operand) (v : ℕ) → T (wordy 8 (numberText a v))
-number-wordy a v = wordy-equals (digitsOf a) v (digits-few a)
+number-wordy : (a : Operand) (n : ℤ) → T (wordy 8 (numberText a n))
+unfolding numberText
+number-wordy a n = wordy-equals (digitsOf a) (natAbs n) (isSigned a) n (digits-few a)
 
 parts-wordy : (r : Record) → Wordy (parts r)
 parts-wordy r =
     width-wordy (r .width) also opcode-wordy (r .opcode) also size-wordy (r .size)
-    also first-wordy (r .op0) also after-wordy (r .op0) also number-wordy (r .op0) (key r .number0)
-    also first-wordy (r .op1) also after-wordy (r .op1) also number-wordy (r .op1) (key r .number1)
-    also first-wordy (r .op2) also after-wordy (r .op2) also number-wordy (r .op2) (key r .number2) also done
+    also first-wordy (r .op0) also after-wordy (r .op0) also number-wordy (r .op0) (numberAt r 0 .value)
+    also first-wordy (r .op1) also after-wordy (r .op1) also number-wordy (r .op1) (numberAt r 1 .value)
+    also first-wordy (r .op2) also after-wordy (r .op2) also number-wordy (r .op2) (numberAt r 2 .value) also done
 
 -- a name's two words, and the number behind them
-operand-joined : (a : Operand) (v : ℕ) (xs : List ℕ) → firstEight (shown a) ++ (afterEight (shown a) ++ (numberText a v ++ xs)) ≡ operandText a v ++ xs
-operand-joined a v xs =
-    sym (append-assoc (firstEight (shown a)) (afterEight (shown a)) (numberText a v ++ xs))
-    ∙ ap (λ s. s ++ (numberText a v ++ xs)) (take-append-drop 8 (shown a)) ∙ sym (append-assoc (shown a) (numberText a v) xs)
+operand-joined : (a : Operand) (n : ℤ) (xs : List ℕ) → firstEight (shown a) ++ (afterEight (shown a) ++ (numberText a n ++ xs)) ≡ operandText a n ++ xs
+operand-joined a n xs =
+    sym (append-assoc (firstEight (shown a)) (afterEight (shown a)) (numberText a n ++ xs))
+    ∙ ap (λ s. s ++ (numberText a n ++ xs)) (take-append-drop 8 (shown a)) ∙ sym (append-assoc (shown a) (numberText a n) xs)
 
 parts-joined : (r : Record) → joined (parts r) ≡ fromWidth r
 unfolding fromWidth
 parts-joined r =
     ap (λ s. widthText (r .width) ++ (opcodeText (r .opcode) ++ (sizeText (r .size) ++ s)))
-    (operand-joined (r .op0) (key r .number0) _ ∙ ap (λ s. operandText (r .op0) (key r .number0) ++ s)
-    (operand-joined (r .op1) (key r .number1) _ ∙ ap (λ s. operandText (r .op1) (key r .number1) ++ s)
-    (operand-joined (r .op2) (key r .number2) [] ∙ append-nil (operandText (r .op2) (key r .number2)))))
+    (operand-joined (r .op0) (numberAt r 0 .value) _ ∙ ap (λ s. operandText (r .op0) (numberAt r 0 .value) ++ s)
+    (operand-joined (r .op1) (numberAt r 1 .value) _ ∙ ap (λ s. operandText (r .op1) (numberAt r 1 .value) ++ s)
+    (operand-joined (r .op2) (numberAt r 2 .value) [] ∙ append-nil (operandText (r .op2) (numberAt r 2 .value)))))
 
 pub from-width : (r : Record) → text (0 ∷ 0 ∷ map pack (parts r)) ≡ fromWidth r
 from-width r = text-of {xss = [] ∷ [] ∷ parts r} (tt also tt also parts-wordy r) ∙ parts-joined r

@@ -12,7 +12,8 @@ use borrow.Author.Tests.{lt-ltb, ltb-true, ne-eqb}
 use Rattle.laws.specs.Choice.{pick, both}
 use Rattle.laws.proofs.Choice.{both-left, both-right}
 use Rattle.line.specs.Characters.{hex}
-use Rattle.line.specs.Line.{equals}
+use lib.IntN.{ℤ, pos, negsuc}
+use Rattle.line.specs.Line.{signText, equals}
 use Rattle.line.specs.steps.Packed.{pack, upTo, chars, text}
 use Rattle.line.proofs.Packing.{spent}
 use Rattle.line.proofs.Digits.{character}
@@ -53,11 +54,17 @@ wordy-hex (suc k) n v cs t =
 pub wordy-digits : (k n v : ℕ) → T (wordy (k + n) (hex k v))
 wordy-digits k n v = subst (λ cs. T (wordy (k + n) cs)) (append-nil (hex k v)) (wordy-hex k n v [] tt)
 
-pub wordy-equals : (n v : ℕ) → n ≤ 5 → T (wordy 8 (equals n v))
-wordy-equals zero v h = tt
-wordy-equals (suc n) v h =
-    let e : suc n + (7 - suc n) ≡ 7 = omega arith in
-    subst (λ m. T (wordy m (hex (suc n) v))) e (wordy-digits (suc n) (7 - suc n) v)
+wordy-within : (m n v : ℕ) → n ≤ m → T (wordy m (hex n v))
+wordy-within m n v h =
+    let e : n + (m - n) ≡ m = omega arith in
+    subst (λ k. T (wordy k (hex n v))) e (wordy-digits n (m - n) v)
+
+-- a number has at most eight characters: `=`, a sign or none, and up to five digits
+pub wordy-equals : (n v : ℕ) (b : Bool) (z : ℤ) → n ≤ 5 → T (wordy 8 (equals n (pick b (signText z) []) v))
+wordy-equals zero v b z h = tt
+wordy-equals (suc n) v true (pos m) h = wordy-within 6 (suc n) v (omega arith)
+wordy-equals (suc n) v true (negsuc m) h = wordy-within 6 (suc n) v (omega arith)
+wordy-equals (suc n) v false z h = wordy-within 7 (suc n) v (omega arith)
 
 abbrev pub joined : List (List ℕ) → List ℕ
 joined [] = []

@@ -1,6 +1,7 @@
 -- Document 01, "Bench lines": the lines of a listing, without the newline.
 use Prim.Native.Nat.{ℕ, zero, suc}
 use mathlib.Core.List.{List, [], _∷_, _++_}
+use lib.IntN.{ℤ, pos, negsuc, natAbs}
 use Rattle.laws.specs.Choice.{pick}
 use Rattle.record.specs.declared.Record.{Record}
 use Rattle.record.specs.declared.Opcode.{Opcode}
@@ -12,7 +13,8 @@ use Rattle.record.specs.declared.Operand.{Operand}
 use Rattle.record.specs.declared.Operand.the-variants.{Nothing, Imm4, Imm8, Imm16, RegList, Abs16, Abs20, Disp8, «Disp8_A0», «Disp8_A1», «Disp8_SB», «Disp8_FB», «Disp8_SP», «Disp16_A0»}
 use Rattle.record.specs.declared.Operand.the-variants.{«Disp16_A1», «Disp16_SB», «Disp20_A0», «Disp20_A1», «Bit_R0», «Bit_R1», «Bit_R2», «Bit_R3», «Bit_A0», «Bit_A1», «Bit_Disp8_A0»}
 use Rattle.record.specs.declared.Operand.the-variants.{«Bit_Disp8_A1», «Bit_Disp8_SB», «Bit_Disp8_FB», «Bit_Disp16_A0», «Bit_Disp16_A1», «Bit_Disp16_SB», «Bit_Abs16»}
-use Rattle.record.specs.Same.{sameName, among, key}
+use Rattle.record.specs.Same.{sameName, among}
+use Rattle.record.specs.Signed.{isSigned, numberAt}
 use Rattle.line.specs.Characters.{spelled, hex}
 use Rattle.line.specs.Names.{opcodeName, operandName}
 
@@ -49,26 +51,32 @@ twentyNames = Abs20 ∷ «Disp20_A0» ∷ «Disp20_A1» ∷ []
 unfoldable pub digitsOf : Operand → ℕ
 digitsOf a = pick (sameName a Imm4) 1 (pick (among byteNames a) 2 (pick (among wordNames a) 4 (pick (among twentyNames a) 5 0)))
 
-abbrev pub equals : ℕ → ℕ → List ℕ
-equals zero v = []
-equals (suc n) v = spelled "=" ++ hex (suc n) v
+-- request A3: the sign of a signed number, + for zero and above
+abbrev pub signText : ℤ → List ℕ
+signText (pos n) = spelled "+"
+signText (negsuc n) = spelled "-"
 
--- the number of a name
-abbrev pub numberText : Operand → ℕ → List ℕ
-numberText a v = equals (digitsOf a) v
+-- `=`, a sign or none, and so many digits
+abbrev pub equals : ℕ → List ℕ → ℕ → List ℕ
+equals zero sign v = []
+equals (suc n) sign v = spelled "=" ++ (sign ++ hex (suc n) v)
+
+-- the number of a name: its sign if it is signed, and the digits of its distance from zero
+unfoldable pub numberText : Operand → ℤ → List ℕ
+numberText a n = equals (digitsOf a) (pick (isSigned a) (signText n) []) (natAbs n)
 
 -- a name that is shown; Nothing is not
 unfoldable pub shown : Operand → List ℕ
 shown a = pick (sameName a Nothing) [] (spelled " " ++ operandName a)
 
-abbrev pub operandText : Operand → ℕ → List ℕ
-operandText a v = shown a ++ numberText a v
+abbrev pub operandText : Operand → ℤ → List ℕ
+operandText a n = shown a ++ numberText a n
 
 -- from the width on; whose number is whose is sameness's rule
 unfoldable pub fromWidth : Record → List ℕ
 fromWidth r =
     widthText (r .width) ++ (opcodeText (r .opcode) ++ (sizeText (r .size)
-    ++ (operandText (r .op0) (key r .number0) ++ (operandText (r .op1) (key r .number1) ++ operandText (r .op2) (key r .number2)))))
+    ++ (operandText (r .op0) (numberAt r 0 .value) ++ (operandText (r .op1) (numberAt r 1 .value) ++ operandText (r .op2) (numberAt r 2 .value)))))
 
 -- the place in four digits, the length in one (of a larger place or length its low digits), and the rest
 unfoldable pub lineOf : ℕ → Record → List ℕ

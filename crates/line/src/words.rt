@@ -2,8 +2,10 @@
 ghost use mathlib.Core.Path.{_≡_};
 ghost use mathlib.Core.List.{_∷_, map};
 ghost use Prim.Native.Nat.{_<_, _≤_};
+ghost use lib.IntN.{natAbs};
+ghost use Rattle.record.specs.Signed.{numberOf};
 ghost use Rattle.line.specs.Characters.{digit, hex};
-ghost use Rattle.line.specs.Line.{widthText, sizeText, digitsOf, equals};
+ghost use Rattle.line.specs.Line.{widthText, sizeText, digitsOf, signText, numberText};
 ghost use Rattle.line.specs.steps.Packed.{pack, placeText, lengthText, parts, endParts, refusedParts};
 use crate::names;
 use record::Operand;
@@ -11,6 +13,7 @@ use record::Record;
 use record::Size;
 use record::Width;
 use record::fields;
+use record::signed;
 
 fn width_word(x: Width) -> u64
     ensures { λ r. ⌜ r ≡ pack (widthText x) ⌝ }
@@ -97,15 +100,38 @@ fn digits_of(x: Operand) -> u8
     }
 }
 
-// `=` and the digits.
-fn number_word(n: u8, v: u64) -> u64
-    requires { ⌜ n ≤ 5 ⌝ }
-    ensures { λ r. ⌜ r ≡ pack (equals n v) ⌝ }
+fn sign_of(n: i64) -> u64
+    ensures { λ r. ⌜ (r ≡ pack (signText n)) × (r < 0x100) ⌝ }
 {
-    if n == 0 {
+    if n < 0 {
+        return 0x2D;
+    }
+    0x2B
+}
+
+// How far a number is from zero; of a negative one counted from -1, so that the least one has its distance too.
+fn distance(n: i64) -> u64
+    ensures { λ r. ⌜ r ≡ natAbs n ⌝ }
+{
+    if n < 0 {
+        return ((-1 - n) as u64) + 1;
+    }
+    n as u64
+}
+
+// `=`, the sign of a signed number, and the digits.
+fn number_word(x: Operand, v: u32) -> u64
+    ensures { λ r. ⌜ r ≡ pack (numberText x (numberOf x v)) ⌝ }
+{
+    let count = digits_of(x);
+    if count == 0 {
         return 0;
     }
-    0x3D + 0x100 * digits(n, v)
+    if signed::is_signed(x) {
+        let n = signed::number_of(x, v);
+        return 0x3D + 0x100 * (sign_of(n) + 0x100 * digits(count, distance(n)));
+    }
+    0x3D + 0x100 * digits(count, v as u64)
 }
 
 // The words of a line, behind two that are given.
@@ -130,13 +156,13 @@ pub fn words_of(first: u64, second: u64, r: Record) -> [u64; 14]
         size_word(size),
         a.0,
         a.1,
-        number_word(digits_of(op0), numbers.number0 as u64),
+        number_word(op0, numbers.number0),
         b.0,
         b.1,
-        number_word(digits_of(op1), numbers.number1 as u64),
+        number_word(op1, numbers.number1),
         c.0,
         c.1,
-        number_word(digits_of(op2), numbers.number2 as u64),
+        number_word(op2, numbers.number2),
     ]
 }
 

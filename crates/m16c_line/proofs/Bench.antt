@@ -4,12 +4,13 @@ use Prim.Native.Nat.{ℕ}
 use mathlib.Core.Path.{_≡_, refl}
 use mathlib.Core.List.{List, [], _∷_}
 use Rattle.record.specs.Same.{sameName, among, fieldOf}
+use Rattle.record.specs.Signed.{isSigned, numberOf}
 use Rattle.rows.specs.Rows.{known, rowsOf}
 use Rattle.rows.specs.Codes.{condOf}
 use Rattle.rows.specs.Run.{decodeBy, runRow, run, readDisp, readImm}
 use Rattle.line.specs.Characters.{spelled, digit}
 use Rattle.line.specs.Names.{opcodeNames, opcodeName, operandNames, operandName}
-use Rattle.line.specs.Line.{digitsOf, shown, fromWidth, lineOf}
+use Rattle.line.specs.Line.{digitsOf, numberText, shown, fromWidth, lineOf}
 use Rattle.line.specs.Left.{left}
 use Rattle.m16c_line.specs.Lined.{untouched, lined}
 
@@ -18,8 +19,8 @@ bytes = 0x74 ∷ 0x0F ∷ 0x34 ∷ 0x12 ∷ 0x89 ∷ 0x67 ∷ 0xF5 ∷ 0x7D ∷ 
 
 pub document : (out : List ℕ)
     → (lined bytes 0 out ≡ left (spelled "0000 7 B STE Abs16=1234 Abs20=56789") out)
-    × (lined bytes 7 out ≡ left (spelled "0007 3 W JLE Disp8=05") out)
+    × (lined bytes 7 out ≡ left (spelled "0007 3 W JLE Disp8=+05") out)
     × (lined bytes 0xA out ≡ left (spelled "000A 2 - INT Imm8=05") out)
     × (lined bytes 0xC out ≡ untouched 2 out)
-unfolding lined decodeBy runRow run readDisp readImm condOf known rowsOf sameName among fieldOf digit opcodeNames opcodeName operandNames operandName digitsOf shown fromWidth lineOf
+unfolding lined decodeBy runRow run readDisp readImm condOf known rowsOf sameName among fieldOf digit opcodeNames opcodeName operandNames operandName digitsOf numberText isSigned numberOf shown fromWidth lineOf
 document out = (refl, refl, refl, refl)

@@ -5,7 +5,7 @@ use lib.ListN.{take, drop}
 use lib.Dec.{eqb}
 use Rattle.laws.specs.Choice.{pick}
 use Rattle.record.specs.declared.Record.{Record}
-use Rattle.record.specs.Same.{key}
+use Rattle.record.specs.Signed.{numberAt}
 use Rattle.line.specs.Characters.{spelled, hex}
 use Rattle.line.specs.Line.{widthText, opcodeText, sizeText, shown, numberText}
 
@@ -44,9 +44,9 @@ lengthText n = hex 1 n ++ spelled " "
 abbrev pub parts : Record → List (List ℕ)
 parts r =
     widthText (r .width) ∷ opcodeText (r .opcode) ∷ sizeText (r .size)
-    ∷ firstEight (shown (r .op0)) ∷ afterEight (shown (r .op0)) ∷ numberText (r .op0) (key r .number0)
-    ∷ firstEight (shown (r .op1)) ∷ afterEight (shown (r .op1)) ∷ numberText (r .op1) (key r .number1)
-    ∷ firstEight (shown (r .op2)) ∷ afterEight (shown (r .op2)) ∷ numberText (r .op2) (key r .number2) ∷ []
+    ∷ firstEight (shown (r .op0)) ∷ afterEight (shown (r .op0)) ∷ numberText (r .op0) (numberAt r 0 .value)
+    ∷ firstEight (shown (r .op1)) ∷ afterEight (shown (r .op1)) ∷ numberText (r .op1) (numberAt r 1 .value)
+    ∷ firstEight (shown (r .op2)) ∷ afterEight (shown (r .op2)) ∷ numberText (r .op2) (numberAt r 2 .value) ∷ []
 
 abbrev pub endParts : ℕ → List (List ℕ)
 endParts place = spelled "END " ∷ hex 4 place ∷ []
