@@ -39,7 +39,7 @@ enum m16c_refusal {
     M16C_INVALID_OPCODE = 2, /* decoding: no instruction has this code or this condition byte */
     M16C_INVALID_OPERAND = 3, /* decoding: the instruction does not take this operand */
     M16C_FIRST_BYTE_OUTSIDE = 4, /* decoding: not one of the twelve first bytes that are decoded here */
-    M16C_NO_STRING = 5, /* encoding: no bytes decode to this instruction, but for those of marked rows */
+    M16C_NO_STRING = 5, /* encoding: no bytes decode to this instruction, but for those of marked rows; asked for a number: there is none */
     M16C_TOO_LITTLE_ROOM = 6, /* what was passed in for the result is too short */
     M16C_IMAGE_TOO_LONG = 7 /* sweeping: the image is longer than 4,096 bytes */
 };
@@ -254,6 +254,11 @@ uint32_t m16c_sweep(const uint8_t *image, size_t image_length, uint16_t *starts,
 /* The listing's line of the instruction at a place of an image, without a newline, over the first bytes of a buffer. Returns 0 and leaves
  * the line's length; or decoding's refusal, or 6 where the line has no room, with length 0 and the buffer as it was. */
 uint32_t m16c_line(const uint8_t *image, size_t image_length, size_t at, uint8_t *out, size_t out_length, size_t *line_length);
+
+/* The number of operand k of the record of twelve numbers, in the order that m16c_decode fills: signed for Disp8_FB and Disp8, whose low
+ * byte counts from -128 to 127, and for any other name its field as it is. Taken, length and marked do not count. Returns 0 and
+ * leaves the number; or 5 and 0 where the numbers make no record or it has no operand k with a number. */
+uint32_t m16c_operand_number(const uint32_t *numbers, size_t numbers_length, size_t k, int64_t *number);
 /* End of what is made */
 
 #ifdef __cplusplus

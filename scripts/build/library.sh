@@ -1,7 +1,7 @@
 # Sourced by scripts that use the static library; kit.sh and progress.sh are sourced before.
 # M16C_LIBRARY in the environment names an archive to take, instead of building one below target/library.
 
-c_functions="m16c_decode m16c_encode m16c_sweep m16c_line"
+c_functions="m16c_decode m16c_encode m16c_sweep m16c_line m16c_operand_number"
 
 # Which archive is built: fast or small. Scripts that take --small set it.
 form=fast

@@ -66,7 +66,7 @@ enumeration() {
 
 c_functions() {
     functions | awk '
-        function c_type(type) { return type == "usize" ? "size_t" : "uint" substr(type, 2) "_t" }
+        function c_type(type) { return type == "usize" ? "size_t" : (type ~ /^i/ ? "int" : "uint") substr(type, 2) "_t" }
         function declared(name, type) {
             if (type ~ /^&.*\[/) {
                 constant = type ~ /^&mut/ ? "" : "const "

@@ -99,7 +99,12 @@ rust_functions() {
             }
             return name ": " (sub(/^&mut /, "", type) ? "*mut " : "") type
         }
-        function alias(name) { sub(/^m16c_/, "", name); return toupper(substr(name, 1, 1)) substr(name, 2) }
+        function alias(name,  part, count, k, text) {
+            sub(/^m16c_/, "", name)
+            count = split(name, part, "_")
+            for (k = 1; k <= count; k++) text = text toupper(substr(part[k], 1, 1)) substr(part[k], 2)
+            return text
+        }
         /^\/\// { comments = comments "    /" $0 "\n"; next }
         {
             count = split($0, part, "; "); split(part[1], head, " "); list = ""

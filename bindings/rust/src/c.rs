@@ -45,6 +45,15 @@ extern "C" {
         out: *mut u8, out_length: usize,
         line_length: *mut usize,
     ) -> u32;
+
+    /// The number of operand k of the record of twelve numbers, in the order that m16c_decode fills: signed for Disp8_FB and Disp8, whose low
+    /// byte counts from -128 to 127, and for any other name its field as it is. Taken, length and marked do not count. Returns 0 and
+    /// leaves the number; or 5 and 0 where the numbers make no record or it has no operand k with a number.
+    pub fn m16c_operand_number(
+        numbers: *const u32, numbers_length: usize,
+        k: usize,
+        number: *mut i64,
+    ) -> u32;
 }
 
 // The types of the functions, for programs that pass them on.
@@ -74,4 +83,10 @@ pub type Line = unsafe extern "C" fn(
     at: usize,
     out: *mut u8, out_length: usize,
     line_length: *mut usize,
+) -> u32;
+
+pub type OperandNumber = unsafe extern "C" fn(
+    numbers: *const u32, numbers_length: usize,
+    k: usize,
+    number: *mut i64,
 ) -> u32;

@@ -41,6 +41,15 @@ pub fn encode(instruction: &Instruction, buf: &mut [u8], place: usize) -> Result
     accepted(returned).map(|()| length)
 }
 
+/// The number that belongs to an operand, if there is one.
+pub(crate) fn operand_number(instruction: &Instruction, k: usize) -> Option<i64> {
+    let numbers = instruction.numbers();
+    let mut number = 0;
+    // Sound: a slice, passed with its own length and borrowed for the call, and a number of ours.
+    let returned = unsafe { c::m16c_operand_number(numbers.as_ptr(), numbers.len(), k, &mut number) };
+    accepted(returned).ok().map(|()| number)
+}
+
 /// What a function of the library returned.
 pub(crate) fn accepted(returned: u32) -> Result<(), Refusal> {
     match returned {

@@ -1,3 +1,4 @@
+use crate::calls::operand_number;
 use crate::names::index;
 use crate::{Opcode, OperandSpec, Size, Width};
 
@@ -25,7 +26,8 @@ pub struct Instruction {
 #[derive(Debug, Clone, Copy, PartialEq, Eq, Hash)]
 pub struct Operand {
     pub spec: OperandSpec,
-    pub number: Option<u32>,
+    /// As the listing counts it: signed for `Disp8_FB` and `Disp8`; for any other form what the field of the record holds.
+    pub number: Option<i64>,
 }
 
 impl Default for Instruction {
@@ -48,20 +50,7 @@ impl Instruction {
     /// Operand 0, 1 or 2; none if there is none.
     pub fn operand(&self, idx: u8) -> Option<Operand> {
         let spec = *self.operands.get(usize::from(idx))?;
-        let number = match number_of(spec) {
-            Number::None => None,
-            Number::ImmWide => Some(self.imm_wide),
-            Number::Dispabs if Some(idx) == self.operand_of_first() => Some(u32::from(self.first)),
-            Number::Dispabs => Some(u32::from(self.dispabs)),
-        };
-        (spec != OperandSpec::Nothing).then_some(Operand { spec, number })
-    }
-
-    /// Where operands 0 and 1 both need `dispabs`, the one whose number is in `first`.
-    fn operand_of_first(&self) -> Option<u8> {
-        let [op0, op1, _] = self.operands;
-        let both = number_of(op0) == Number::Dispabs && number_of(op1) == Number::Dispabs;
-        both.then_some(if op0 == OperandSpec::Disp8_SP { 1 } else { 0 })
+        (spec != OperandSpec::Nothing).then(|| Operand { spec, number: operand_number(self, idx.into()) })
     }
 
     /// None if the numbers are those of no instruction.
@@ -96,29 +85,5 @@ impl Instruction {
         numbers[index::DISPABS] = u32::from(self.dispabs);
         numbers[index::FIRST] = u32::from(self.first);
         numbers
-    }
-}
-
-/// Where a form of operand has its number.
-#[derive(PartialEq, Eq)]
-enum Number {
-    None,
-    ImmWide,
-    Dispabs,
-}
-
-fn number_of(spec: OperandSpec) -> Number {
-    use OperandSpec::*;
-    match spec {
-        Imm4 | Imm8 | Imm16 | Abs20 | Disp20_A0 | Disp20_A1 | Disp8 | RegList => Number::ImmWide,
-        Disp8_A0 | Disp8_A1 | Disp8_SB | Disp8_FB | Disp8_SP | Disp16_A0 | Disp16_A1 | Disp16_SB | Abs16 => {
-            Number::Dispabs
-        }
-        Bit_R0 | Bit_R1 | Bit_R2 | Bit_R3 | Bit_A0 | Bit_A1 => Number::Dispabs,
-        Bit_Disp8_A0 | Bit_Disp8_A1 | Bit_Disp8_SB | Bit_Disp8_FB => Number::Dispabs,
-        Bit_Disp16_A0 | Bit_Disp16_A1 | Bit_Disp16_SB | Bit_Abs16 => Number::Dispabs,
-        Bit_Deref_A0 | Bit_Deref_A1 | Deref_A0 | Deref_A1 | Deref_A1A0 => Number::None,
-        R0L | R0H | R1L | R1H | R0 | R1 | R2 | R3 | R2R0 | R3R1 | A0 | A1 | A1A0 => Number::None,
-        INTBL | INTBH | FLG | ISP | SP | SB | FB | Nothing => Number::None,
     }
 }

@@ -731,7 +731,7 @@ pub enum Refusal {
     InvalidOperand = 3,
     /// Decoding: not one of the twelve first bytes that are decoded here.
     FirstByteOutside = 4,
-    /// Encoding: no bytes decode to this instruction, but for those of marked rows.
+    /// Encoding: no bytes decode to this instruction, but for those of marked rows; asked for a number: there is none.
     NoString = 5,
     /// What was passed in for the result is too short.
     TooLittleRoom = 6,

@@ -4,6 +4,7 @@ ghost use Rattle.encode_rules.specs.Written.{outcome};
 ghost use Rattle.m16c_decode.specs.Decoded.{Decodes};
 ghost use Rattle.m16c_encode.specs.Numbers.{EncodesNumbers};
 ghost use Rattle.m16c_line.specs.Lined.{Lines};
+ghost use Rattle.m16c_operand_number.specs.Told.{TellsNumber};
 
 #[no_mangle]
 pub extern "C" fn m16c_decode(image: &[u8], at: usize, out: &mut [u32]) -> u32
@@ -29,4 +30,11 @@ pub extern "C" fn m16c_line(image: &[u8], at: usize, out: &mut [u8], line_length
     ensures { λ r. ⌜ Lines (now (image .entry)) at (now (out .entry)) r (now («line_length» .exit)) (now (out .exit)) ⌝ }
 {
     m16c_line::m16c_line(image, at, out, line_length)
+}
+
+#[no_mangle]
+pub extern "C" fn m16c_operand_number(numbers: &[u32], k: usize, number: &mut i64) -> u32
+    ensures { λ r. ⌜ TellsNumber (now (numbers .entry)) k r (now (number .exit)) ⌝ }
+{
+    m16c_operand_number::m16c_operand_number(numbers, k, number)
 }
