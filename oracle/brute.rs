@@ -5,12 +5,11 @@
 use std::collections::HashMap;
 use std::sync::OnceLock;
 
+use crate::operands::{asked_for, settled, Field, WIDTHS};
 use crate::{code_of, expected, ported, CODES, DISPABS, FIELDS, FIRST, IMM_WIDE, OPCODE, OPERANDS, SIZE, TAKEN, WIDTH};
 
 pub type Record = [u32; FIELDS];
 
-/// None, B and W.
-pub const WIDTHS: usize = 3;
 const LONGEST: usize = 7;
 
 // ---- Sameness
@@ -45,14 +44,19 @@ fn key_of(record: &Record) -> Option<Key> {
             width: named(WIDTH, WIDTHS)?,
             bases: operands.map(|operand| operand.base),
         },
-        numbers: fields_of_numbers(operands).map(|field| field.map_or(0, |field| record[field])),
+        numbers: settled(operands.map(|operand| operand.field), operands[0].is_disp8_sp).map(|field| match field {
+            None => 0,
+            Some(Field::ImmWide) => record[IMM_WIDE],
+            Some(Field::Dispabs) => record[DISPABS],
+            Some(Field::First) => record[FIRST],
+        }),
     })
 }
 
 /// What sameness asks of an operand's name.
 struct OperandName {
     base: usize,
-    field: Option<usize>,
+    field: Option<Field>,
     is_disp8_sp: bool,
 }
 
@@ -64,7 +68,7 @@ fn operand_names() -> &'static [OperandName] {
 
 fn operand_name(name: &str) -> OperandName {
     let base = oracle::OPERAND_NAMES.iter().position(|other| *other == base(name));
-    OperandName { base: base.expect("a base is a name"), field: field_of_number(name), is_disp8_sp: name == "Disp8_SP" }
+    OperandName { base: base.expect("a base is a name"), field: asked_for(name), is_disp8_sp: name == "Disp8_SP" }
 }
 
 /// Base and number count for displacements on A0, A1 and SB, however many bytes the number has; any other name for itself.
@@ -75,28 +79,6 @@ fn base(name: &str) -> &str {
         "Disp8_SB" => "Disp16_SB",
         _ => name,
     }
-}
-
-/// The field that holds an operand's number, if its name has one.
-fn field_of_number(name: &str) -> Option<usize> {
-    let begins = |prefixes: &[&str]| prefixes.iter().any(|prefix| name.starts_with(prefix));
-    if name == "Disp8" || begins(&["Imm", "Abs20", "Disp20_"]) {
-        Some(IMM_WIDE)
-    } else if begins(&["Disp8_", "Disp16_", "Abs16"]) || begins(&["Bit_"]) && !begins(&["Bit_Deref_"]) {
-        Some(DISPABS)
-    } else {
-        None
-    }
-}
-
-/// If operands 0 and 1 both need `dispabs`, one of them has its number in `first`.
-fn fields_of_numbers(operands: [&OperandName; 3]) -> [Option<usize>; 3] {
-    let mut fields = operands.map(|operand| operand.field);
-    if fields[0] == Some(DISPABS) && fields[1] == Some(DISPABS) {
-        let early = if operands[0].is_disp8_sp { 1 } else { 0 };
-        fields[early] = Some(FIRST);
-    }
-    fields
 }
 
 // ---- Marks

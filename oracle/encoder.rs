@@ -3,6 +3,7 @@
 use std::fmt::Write;
 
 use crate::brute::{self, Record, Spelling};
+use crate::operands;
 use crate::{c, code_of, expected, hex, ported, Kind, Random, Tally, CODES, TOO_LITTLE_ROOM};
 use crate::{FIELDS, FIELD_NAMES, MARKED, OPCODE, OPERANDS, SIZE, TAKEN, WIDTH};
 
@@ -221,11 +222,11 @@ fn like_operand(operand: u32, random: &mut Random) -> u32 {
 }
 
 /// A number for a field of a record: one that it can hold, or seldom one just past, or a good one with higher bits set.
-fn any_number(field: usize, random: &mut Random) -> u32 {
+pub fn any_number(field: usize, random: &mut Random) -> u32 {
     let names = match field {
         OPCODE => oracle::OPCODE_NAMES.len(),
         SIZE => oracle::SIZE_NAMES.len(),
-        WIDTH => brute::WIDTHS,
+        WIDTH => operands::WIDTHS,
         MARKED => 2,
         _ if OPERANDS.contains(&field) => oracle::OPERAND_NAMES.len(),
         _ => return edge_or_any(random),

@@ -1,7 +1,9 @@
 // The oracle on the command line: answers hex lines from standard input, or prints the stored list or the odd records.
 
+mod asked;
 mod images;
 mod odd;
+mod operands;
 mod stored;
 
 use std::env;

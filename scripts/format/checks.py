@@ -111,6 +111,8 @@ def check_answers(page, model, names):
             check_encoding(where, model, names, line)
         elif line[0] == "S":
             check_sweep(where, model, line)
+        elif line[0] == "N":
+            check_number(where, model, names, line)
         else:
             code = check_decoding(where, page, model, names, line)
             unseen.discard(code)
@@ -135,11 +137,28 @@ def check_decoding(where, page, model, names, line):
     return tuple(bs[:2]) if answer.refusal != 1 else None
 
 
+def record_in(names, head, wide, shorts):
+    """The record of a line's first three words, or None if a number names nothing."""
+    o, s, w, *operands = (int(head[i:j], 16) for i, j in ((1, 3), (3, 4), (4, 5), (5, 7), (7, 9), (9, 11)))
+    try:
+        return names.record(o, s, w, operands, int(wide, 16), int(shorts[:4], 16), int(shorts[4:], 16))
+    except IndexError:
+        return None
+
+
 def check_encoding(where, model, names, line):
     head, wide, shorts, refusal, length, text = line.split(" ")
-    o, s, w, *operands = (int(head[i:j], 16) for i, j in ((1, 3), (3, 4), (4, 5), (5, 7), (7, 9), (9, 11)))
-    found = model.encode(names.record(o, s, w, operands, int(wide, 16), int(shorts[:4], 16), int(shorts[4:], 16)))
+    record = record_in(names, head, wide, shorts)
+    found = record and model.encode(record)
     same(f"{where}: bytes encoded", found and found.hex(), bytes.fromhex(text)[:int(length)].hex() if refusal == "0" else None)
+
+
+def check_number(where, model, names, line):
+    head, wide, shorts, k, refusal, sign, *_, distance = line.split(" ")
+    record = record_in(names, head, wide, shorts)
+    found = model.number(record, int(k, 16)) if record else None
+    stored = (-1) ** int(sign) * int(distance, 16)
+    same(f"{where}: refusal, number", (5, 0) if found is None else (0, found), (int(refusal), stored))
 
 
 def check_sweep(where, model, line):

@@ -74,6 +74,13 @@ class Model:
         fields = [self.field(record.operands, place) for place in range(3)]
         return tuple(getattr(record, field) if field else 0 for field in fields)
 
+    def number(self, record, k):
+        """The number of operand k as it is counted, or None: of a signed name its low byte, from -80 to 7F."""
+        if k > 2 or self.field(record.operands, k) is None:
+            return None
+        number = self.numbers(record)[k]
+        return (number + 0x80) % 0x100 - 0x80 if self.page.shown(record.operands[k])[1] else number
+
     def key(self, record):
         """What counts: two records with one key are the same instruction."""
         return record.opcode, record.size, record.width, self.based(record.operands), self.numbers(record)
@@ -127,11 +134,17 @@ class Model:
 
     def line(self, place, r):
         words = [f"{place:04X}", f"{r.length:X}", r.width, r.opcode + ("." + r.size if r.size else "")]
-        for name, number in zip(r.operands, self.numbers(r)):
-            shown = self.page.digits_of(name)
+        for k, name in enumerate(r.operands):
             if name != "Nothing":
-                words.append(name + (f"={number % 16 ** shown:0{shown}X}" if shown else ""))
+                words.append(name + self.after(name, self.number(r, k)))
         return " ".join(words)
+
+    def after(self, name, number):
+        """What is shown of a number behind its name."""
+        digits, signed = self.page.shown(name)
+        if not digits:
+            return ""
+        return "=" + ("-" if number < 0 else "+" if signed else "") + f"{abs(number) % 16 ** digits:0{digits}X}"
 
     def listing(self, image):
         if len(image) > LONGEST_IMAGE:

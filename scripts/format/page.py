@@ -24,6 +24,11 @@ def digits(text):
     return found
 
 
+def shown(text):
+    """How many digits of a number are shown, and whether with a sign: '4', or '±2'; an empty cell shows none."""
+    return int(text.lstrip("±") or 0), text.startswith("±")
+
+
 @dataclass
 class Line:
     """A line of a table: its number in the file, and its cells by the table's heading."""
@@ -107,7 +112,7 @@ class Page:
         return found
 
     def operand_table(self, letter):
-        """Of each code the names at B and at other widths, or None if it is refused; the bytes that it reads; the digits shown."""
+        """Of each code the names at B and at other widths, or None if it is refused; the bytes that it reads; what is shown."""
         section = next((s for s in self.sections if s.startswith(letter + ": ")), letter)
         if "".join(line["code"] for line in self.table(section)) != HEX[:8 if letter == "K" else 16]:
             raise Differs(f"{self.path}: the codes of table {letter} are not all there, in order")
@@ -117,29 +122,29 @@ class Page:
         if line.cells.get("name") == "refused 3":
             if line["bytes"] or line["digits"]:
                 raise ValueError("a refused code has no bytes")
-            return None, 0, 0, line.number
+            return None, 0, shown(""), line.number
         names = (line["name"], line["name"]) if "name" in line.cells else (line["at B"], line["at W"])
-        return names, int(line["bytes"]), int(line["digits"] or 0), line.number
+        return names, int(line["bytes"]), shown(line["digits"]), line.number
 
     def field_table(self):
-        """Of each name with a number: the field that holds it, the bytes that it reads, the digits shown."""
+        """Of each name with a number: the field that holds it, the bytes that it reads, the digits shown and whether with a sign."""
         fields = {}
         for named in self.each("Which number is whose", self.named):
             fields.update(named)
         for letter, codes in self.operand_codes.items():
-            for names, size, shown, number in codes:
+            for names, size, digits_shown, number in codes:
                 for name in names or ():
-                    if fields.get(name, (None, 0, 0))[1:] != (size, shown):
+                    if fields.get(name, (None, 0, shown("")))[1:] != (size, digits_shown):
                         raise Differs(f"{self.path}, line {number}: bytes or digits of {name} are others under 'Which number is whose'")
         return fields
 
     def named(self, line):
         if line["field"] not in ("imm_wide", "dispabs"):
             raise ValueError("field")
-        return {name: (line["field"], int(line["bytes"]), int(line["digits"])) for name in line["names"].split()}
+        return {name: (line["field"], int(line["bytes"]), shown(line["digits"])) for name in line["names"].split()}
 
-    def digits_of(self, name):
-        return self.fields.get(name, (None, 0, 0))[2]
+    def shown(self, name):
+        return self.fields.get(name, (None, 0, shown("")))[2]
 
     # Rows
 
@@ -198,7 +203,7 @@ class Page:
         n = second % 16
         code = self.coded(text, second)
         if code is not None:
-            names, size, shown, number = code
+            names, size, _, _ = code
             if names is None:
                 return [(STOP, 3)]
             field = self.fields.get(names[0], (None,))[0]

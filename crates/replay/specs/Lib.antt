@@ -5,5 +5,6 @@ pub mod Numbers
 pub mod Decoding
 pub mod Encoding
 pub mod Sweeping
+pub mod Asking
 pub mod Line
 pub mod Tally

@@ -15,7 +15,7 @@ pub(crate) fn is_whole(line: &[u8]) -> bool
 }
 
 // The twelve numbers of a record, as the C library takes them.
-fn record_in(line: &[u8]) -> [u32; 12]
+pub(crate) fn record_in(line: &[u8]) -> [u32; 12]
     requires { ⌜ length (now line) ≡ 49 ⌝ }
     ensures { λ r. ⌜ r ≡ recordIn (now (line .entry)) ⌝ }
 {

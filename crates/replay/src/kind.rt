@@ -1,10 +1,11 @@
-// What a line of the stored list holds: a record to encode, an image to sweep, or bytes to decode.
+// What a line of the stored list holds: a record to encode, an image to sweep, a record with an operand to ask for, or bytes to decode.
 ghost use mathlib.Core.Path.{_≡_};
 ghost use Rattle.replay.specs.Line.{kindOf};
 
 pub enum Kind {
     Encodes,
     Sweeps,
+    Asks,
     Decodes,
 }
 
@@ -20,6 +21,9 @@ pub(crate) fn kind_of(line: &[u8]) -> Kind
     }
     if line[0] == b'S' {
         return Kind::Sweeps;
+    }
+    if line[0] == b'N' {
+        return Kind::Asks;
     }
     Kind::Decodes
 }

@@ -1,5 +1,6 @@
-// Replays the stored list of answers: decodes, encodes or sweeps what each line of its input gives, and compares.
+// Replays the stored list of answers: decodes, encodes, sweeps or asks for what each line of its input gives, and compares.
 // Its last line of output counts the answers compared, those that differ and, if there are any, the malformed lines.
+mod asking;
 mod decoding;
 mod encoding;
 mod form;
@@ -36,6 +37,7 @@ fn is_whole(line: &[u8], kind: Kind) -> bool
     match kind {
         Kind::Encodes => encoding::is_whole(line),
         Kind::Sweeps => sweeping::is_whole(line),
+        Kind::Asks => asking::is_whole(line),
         Kind::Decodes => decoding::is_whole(line),
     }
 }
@@ -47,6 +49,7 @@ fn agrees(line: &[u8], kind: Kind) -> bool
     match kind {
         Kind::Encodes => encoding::agrees(line),
         Kind::Sweeps => sweeping::agrees(line),
+        Kind::Asks => asking::agrees(line),
         Kind::Decodes => decoding::agrees(line),
     }
 }
