@@ -1,5 +1,5 @@
 // The differential run: the port and the Rust on the same bytes, every field that the Rust has.
-// Here are the running, the counting and the decoder's strings; encoder.rs, sweeps.rs and replayed.rs have the rest.
+// Here are the running, the counting and the decoder's strings; encoder.rs, sweeps.rs, lines.rs, numbers.rs and replayed.rs have the rest.
 // usage: differ [--all]
 
 mod brute;
@@ -7,6 +7,9 @@ mod brute;
 #[path = "../bindings/rust/src/c.rs"]
 mod c;
 mod encoder;
+mod lines;
+mod numbers;
+mod operands;
 mod replayed;
 mod sweeps;
 
@@ -342,6 +345,15 @@ impl Random {
 
 // ---- Running
 
+const TASKS: [(&str, &[Kind]); 6] = [
+    ("stored answers", replayed::KINDS),
+    ("decode", KINDS),
+    ("encode", encoder::KINDS),
+    ("sweep", sweeps::KINDS),
+    ("line", lines::KINDS),
+    ("operand number", numbers::KINDS),
+];
+
 fn main() -> ExitCode {
     let options: Vec<String> = env::args().skip(1).collect();
     let all = match options.as_slice() {
@@ -353,7 +365,7 @@ fn main() -> ExitCode {
         }
     };
     let mut total = Tally::default();
-    for (what, kinds) in [("stored answers", replayed::KINDS), ("decode", KINDS), ("encode", encoder::KINDS), ("sweep", sweeps::KINDS)] {
+    for (what, kinds) in TASKS {
         println!("{:>13} {:>13} {:>13}  {what}", "compared", "accepted", "different");
         for kind in kinds {
             let parts = if all { kind.all_parts } else { kind.quick_parts };

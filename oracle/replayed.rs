@@ -3,6 +3,7 @@
 use crate::brute::Spelling;
 use crate::encoder::{self, WIDE_ROOM};
 use crate::sweeps::{self, Swept, NO_START};
+use crate::numbers as asked;
 use crate::{hex, ported, Kind, Tally, FIELDS};
 use crate::{DISPABS, FIRST, IMM_WIDE, LENGTH, MARKED, OPCODE, OPERANDS, SIZE, TAKEN, WIDTH};
 
@@ -11,6 +12,7 @@ pub const KINDS: &[Kind] = &[
     Kind { name: "strings to decode", quick_parts: 1, all_parts: 1, run_part: strings },
     Kind { name: "records to encode", quick_parts: 1, all_parts: 1, run_part: records },
     Kind { name: "images to sweep", quick_parts: 1, all_parts: 1, run_part: images },
+    Kind { name: "operands to ask for", quick_parts: 1, all_parts: 1, run_part: operands },
 ];
 
 const STORED: &str = include_str!("../crates/replay/stdin");
@@ -68,14 +70,19 @@ fn strings(_part: usize, tally: &mut Tally) {
     }
 }
 
+/// The record of the first three words of a line.
+fn record(names: &str, imm_wide: &str, fields: &str) -> [u32; FIELDS] {
+    let [opcode, size, width, op0, op1, op2] = numbers(&names[1..], [2, 1, 1, 2, 2, 2]);
+    let [dispabs, first] = numbers(fields, [4, 4]);
+    [0, opcode, size, width, op0, op1, op2, number(imm_wide), dispabs, first, 0, 0]
+}
+
 fn records(_part: usize, tally: &mut Tally) {
     for words in lines(|first| first == 'E') {
         let [names, imm_wide, fields, refusal, length, encoding] = words[..] else {
             panic!("a stored record has six words: {words:?}");
         };
-        let [opcode, size, width, op0, op1, op2] = numbers(&names[1..], [2, 1, 1, 2, 2, 2]);
-        let [dispabs, first] = numbers(fields, [4, 4]);
-        let record = [0, opcode, size, width, op0, op1, op2, number(imm_wide), dispabs, first, 0, 0];
+        let record = record(names, imm_wide, fields);
         let wanted = (number(refusal) == 0).then(|| Spelling::of(&bytes(encoding, number(length))));
         encoder::compare(tally, &record, wanted, WIDE_ROOM);
     }
@@ -96,5 +103,16 @@ fn images(_part: usize, tally: &mut Tally) {
         tally.count(wanted.refusal == 0, port == wanted, || {
             format!("{}\n  stored {wanted:X?}\n  port   {port:X?}\n", hex(&image))
         });
+    }
+}
+
+fn operands(_part: usize, tally: &mut Tally) {
+    for words in lines(|first| first == 'N') {
+        let [names, imm_wide, fields, k, refusal, sign, .., distance] = words[..] else {
+            panic!("a stored operand has seven words: {words:?}");
+        };
+        let wanted = i64::from(number(distance)) * if sign == "1" { -1 } else { 1 };
+        let record = record(names, imm_wide, fields);
+        asked::compare(tally, &record, number(k) as usize, (refusal == "0").then_some(wanted));
     }
 }
