@@ -64,6 +64,28 @@ fn encoded_lines() {
     assert_eq!(encoded(&[0x7D, 0x0C, 0x10, 0x00, 0x00]), [0x7D, 0x0C, 0x10, 0x00, 0x00]);
 }
 
+/// Request A3: signed where the name is Disp8_FB or Disp8, and nowhere else; the fields stay as they are.
+#[test]
+fn signed_numbers() {
+    let numbers = |bytes: &[u8]| [0, 1, 2].map(|k| accepted(bytes).operand(k).and_then(|operand| operand.number));
+    for (byte, number) in [(0x00, 0), (0x7F, 127), (0x80, -128), (0xF0, -16), (0xFF, -1)] {
+        assert_eq!(numbers(&[0x74, 0x5B, byte]), [Some(number), None, None]); // NEG Disp8_FB
+        assert_eq!(numbers(&[0x7D, 0xC8, byte]), [Some(number), None, None]); // JLE Disp8
+        assert_eq!(numbers(&[0x7E, 0x8B, byte]), [Some(byte.into()), None, None]); // BCLR Bit_Disp8_FB
+        assert_eq!(numbers(&[0x74, 0xB0, byte]), [Some(byte.into()), None, None]); // MOV.B Disp8_SP,R0L
+        assert_eq!(accepted(&[0x74, 0x5B, byte]).dispabs, byte.into());
+        assert_eq!(accepted(&[0x7D, 0xC8, byte]).imm_wide, byte.into());
+    }
+    assert_eq!(numbers(&[0x78, 0xBB, 0x80, 0x7F]), [Some(-128), Some(127), None]); // MUL Disp8_FB,Disp8_FB
+    assert_eq!(numbers(&[0x7D, 0xA5]), [Some(0xFFFF_FFFD), None, None]); // LDIPL Imm8
+    assert_eq!(numbers(&[0x75, 0x63]), [None; 3]); // ROT.W R1H,R3
+    // The low byte counts, and sameness asks for all of the field.
+    let wide = Instruction { dispabs: 0x01F0, ..accepted(&[0x74, 0x5B, 0xF0]) };
+    assert_eq!(wide.operand(0).and_then(|operand| operand.number), Some(-16));
+    assert_eq!(encode(&wide, &mut [0; m16c::LONGEST_INSTRUCTION], 0), Err(Refusal::NoString));
+    assert_eq!(wide.operand(3), None);
+}
+
 #[test]
 fn decoding_refused() {
     let image = [0xEB, 0xC5, 0x7E, 0xE0];

@@ -1,5 +1,5 @@
 //! Where each operand has its number, for every pair of names and every third: by a table that scripts/interface makes from the
-//! definition of sameness that the library is proved over.
+//! definition of sameness that the library is proved over. Which names are signed is from the rules.
 
 use m16c::{Instruction, Operand, OperandSpec};
 
@@ -7,7 +7,7 @@ const TABLE: &str = include_str!("fields.txt");
 
 const IMM_WIDE: u32 = 0xABCDE;
 const DISPABS: u16 = 0x1234;
-const FIRST: u16 = 0x5678;
+const FIRST: u16 = 0x5698;
 
 /// A name with its letter as operand 2, and for each operand 1 the letters of operand 0 and operand 1.
 struct Row {
@@ -35,13 +35,17 @@ fn row(number: u32, line: &str) -> Row {
 
 /// An operand whose number is in the field with this letter.
 fn operand(spec: OperandSpec, letter: u8) -> Option<Operand> {
-    let number = match letter {
+    let raw = match letter {
         b'-' => None,
         b'i' => Some(IMM_WIDE),
         b'd' => Some(u32::from(DISPABS)),
         b'f' => Some(u32::from(FIRST)),
         other => panic!("the table has a letter {other}"),
     };
+    let number = raw.map(|raw| match spec {
+        OperandSpec::Disp8_FB | OperandSpec::Disp8 => i64::from(raw as i8),
+        _ => i64::from(raw),
+    });
     (spec != OperandSpec::Nothing).then_some(Operand { spec, number })
 }
 

@@ -2,7 +2,7 @@
 
 use std::ptr::{null, null_mut};
 
-use m16c::c::{m16c_decode, m16c_encode, m16c_line, m16c_sweep};
+use m16c::c::{m16c_decode, m16c_encode, m16c_line, m16c_operand_number, m16c_sweep};
 
 const EXHAUSTED_INPUT: u32 = 1;
 const NO_STRING: u32 = 5;
@@ -42,10 +42,11 @@ fn no_room() {
 
 #[test]
 fn nothing_at_all() {
-    let (mut length, mut count, mut place) = (9, 9, 9);
+    let (mut length, mut count, mut place, mut number) = (9, 9, 9, 9);
     assert_eq!(unsafe { m16c_decode(null(), 0, 0, null_mut(), 0) }, TOO_LITTLE_ROOM);
     assert_eq!(unsafe { m16c_encode(null(), 0, null_mut(), 0, 0, &mut length) }, NO_STRING);
     assert_eq!(unsafe { m16c_line(null(), 0, 0, null_mut(), 0, &mut length) }, EXHAUSTED_INPUT);
     assert_eq!(unsafe { m16c_sweep(null(), 0, null_mut(), 0, &mut count, &mut place) }, 0);
-    assert_eq!((length, count, place), (0, 0, 0));
+    assert_eq!(unsafe { m16c_operand_number(null(), 0, 0, &mut number) }, NO_STRING);
+    assert_eq!((length, count, place, number), (0, 0, 0, 0));
 }
