@@ -10,7 +10,8 @@ use std::hint::black_box;
 use std::process::ExitCode;
 use std::time::Instant;
 
-use c::{m16c_decode, m16c_encode, m16c_line, m16c_sweep, Decode, Encode, Line, Sweep};
+use c::{m16c_decode, m16c_encode, m16c_line, m16c_operand_number, m16c_sweep};
+use c::{Decode, Encode, Line, OperandNumber, Sweep};
 use c::{LONGEST_IMAGE, LONGEST_INSTRUCTION, LONGEST_LINE};
 use peer_call::{at_each, nothing_decoded, nothing_encoded, rust_decode, Record};
 use peer_loop::rust_decode_at_each;
@@ -20,6 +21,9 @@ use peer_sweep_loop::rust_sweep as rust_sweep_loop;
 const FIRST_BYTES: [u8; 12] = [0x74, 0x75, 0x76, 0x77, 0x78, 0x79, 0x7A, 0x7B, 0x7C, 0x7D, 0x7E, 0xEB];
 const IMAGE_INSTRUCTIONS: usize = 4000;
 const SEED: u64 = 0x9E37_79B9_7F4A_7C15;
+
+// The operand whose number is asked for.
+const ASKED: usize = 0;
 
 // Numbers of a record that the Rust does not have.
 const FIRST: usize = 9;
@@ -48,6 +52,7 @@ struct Out {
     count: usize,
     stop: usize,
     line: [u8; LONGEST_LINE],
+    number: i64,
 }
 
 /// One way of doing a task over a workload. bench/table.awk takes `empty_loop` off the others of the task, `decode_loop` off `decode`.
@@ -110,13 +115,22 @@ const TASKS: &[Task] = &[
             Way { name: "rattle", run: |work, out| list_each(m16c_line, work, out) },
         ],
     },
+    Task {
+        name: "operand_number",
+        takes: |_| true,
+        whole_images: false,
+        ways: &[
+            Way { name: "empty_loop", run: |work, out| at_each(work.records.iter(), out, |_, _| ()) },
+            Way { name: "rattle", run: |work, out| ask_each(m16c_operand_number, work, out) },
+        ],
+    },
 ];
 
 fn places(work: &Workload) -> impl Iterator<Item = u32> + '_ {
     work.places.iter().copied()
 }
 
-// The four below are always inlined, so that what they are given is a call to a known function, not through a pointer.
+// The five below are always inlined, so that what they are given is a call to a known function, not through a pointer.
 #[inline(always)]
 fn decode_each(decode: Decode, work: &Workload, out: &mut Out) {
     let image = work.image.as_slice();
@@ -147,6 +161,13 @@ fn list_each(line: Line, work: &Workload, out: &mut Out) {
     at_each(places(work), out, |place, out| {
         let to = out.line.as_mut_slice();
         unsafe { line(image.as_ptr(), image.len(), place as usize, to.as_mut_ptr(), to.len(), &mut out.length) };
+    });
+}
+
+#[inline(always)]
+fn ask_each(operand_number: OperandNumber, work: &Workload, out: &mut Out) {
+    at_each(work.records.iter(), out, |record, out| {
+        unsafe { operand_number(record.as_ptr(), record.len(), ASKED, &mut out.number) };
     });
 }
 
@@ -277,6 +298,7 @@ fn check_same_work(work: &Workload) -> Result<(), String> {
     work.places.iter().try_for_each(|place| check_decoding(work, *place))?;
     work.places.iter().try_for_each(|place| check_line(work, *place))?;
     work.records.iter().try_for_each(|record| check_encoding(record))?;
+    work.records.iter().try_for_each(|record| check_number(record))?;
     work.pieces.iter().try_for_each(|piece| check_sweeping(piece))
 }
 
@@ -326,6 +348,21 @@ fn check_line(work: &Workload, place: u32) -> Result<(), String> {
     Ok(())
 }
 
+/// A number is one of the record's fields, or the low byte of one less 100 (hex); there is none only for a name without one.
+fn check_number(record: &Record) -> Result<(), String> {
+    const FIELDS: [usize; 3] = [7, 8, FIRST];
+    let mut number = i64::MIN;
+    let refusal = unsafe { m16c_operand_number(record.as_ptr(), record.len(), ASKED, &mut number) };
+    let told = FIELDS.iter().any(|field| {
+        let raw = i64::from(record[*field]);
+        number == raw || number == raw % 0x100 - 0x100
+    });
+    if !(refusal == 0 && told || refusal == 5 && number == 0) {
+        return Err(format!("the number of operand {ASKED} of {record:X?} is {refusal}, {number}"));
+    }
+    Ok(())
+}
+
 /// All sweep a piece to its end, over the same starts.
 fn check_sweeping(piece: &[u8]) -> Result<(), String> {
     let rattle = swept(m16c_sweep, piece);
@@ -360,6 +397,7 @@ fn new_out() -> Out {
         count: 0,
         stop: 0,
         line: [0; LONGEST_LINE],
+        number: 0,
     }
 }
 

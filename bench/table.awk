@@ -4,17 +4,19 @@
 # Set `rows` to a pattern of the workloads that are shown.
 
 BEGIN {
-    split("decode encode sweep line", tasks, " ")
+    split("decode encode sweep line operand_number", tasks, " ")
     # What the port stands beside, in the order shown; and the limits, for the workloads that look like use.
     beside["insns decode"] = "rust_call rust_loop empty_call"
     beside["insns encode"] = "decode empty_call"
     beside["ns decode"] = beside["ns sweep"] = beside["insns sweep"] = "rust_call rust_loop"
     beside["ns encode"] = "decode"
-    beside["small decode"] = beside["small encode"] = beside["small sweep"] = beside["small line"] = "fast"
+    for (t = 1; t in tasks; t++) {
+        beside["small " tasks[t]] = "fast"
+        limit["small " tasks[t] " fast"] = 1.5
+    }
     limit["insns decode rust_call"] = limit["bytes decode rust_3"] = 1
     limit["insns encode decode"] = 3
     limit["insns sweep rust_call"] = 1.1
-    limit["small decode fast"] = limit["small encode fast"] = limit["small sweep fast"] = limit["small line fast"] = 1.5
     most["together small"] = 24000
     # Whose code is measured in bytes, in the order shown.
     split("rust_3 rust_z fast small", sized, " ")
@@ -47,7 +49,7 @@ function each(kind, task, work, way) {
 
 function row(kind, task, work, other,  own, ratio) {
     own = each(kind, task, work, "rattle")
-    printf "  %-6s %-5s %6s %10.2f", task, work, units[task, work], own
+    printf "  %-14s %-5s %6s %10.2f", task, work, units[task, work], own
     if (other == "") { print ""; return }
     ratio = own / each(kind, task, work, other)
     printf " %10.2f %7.3f  %s\n", each(kind, task, work, other), ratio, spelled[other]
@@ -77,7 +79,7 @@ function section(kind,  t, w, o, list, others) {
 # Each function, and all that one has; a blank where there is none.
 function sizes(  t, w) {
     print title["bytes"]
-    printf "  %-8s", ""
+    printf "  %-14s", ""
     for (w = 1; w in sized; w++) printf " %10s", (sized[w] in spelled && sized[w] ~ /^rust/ ? spelled[sized[w]] : sized[w])
     print ""
     for (t = 1; t in tasks; t++) size_row(tasks[t])
@@ -85,7 +87,7 @@ function sizes(  t, w) {
 }
 
 function size_row(task,  w) {
-    printf "  %-8s", task
+    printf "  %-14s", task
     for (w = 1; w in sized; w++) printf " %10s", amount["bytes", task, "-", sized[w]]
     print ""
 }
@@ -105,7 +107,7 @@ function size_verdict(key, text,  part, bytes, bad) {
 }
 
 END {
-    printf "  %-6s %-5s %6s %10s %10s %7s\n", "", "", "units", "rattle", "beside", "ratio"
+    printf "  %-14s %-5s %6s %10s %10s %7s\n", "", "", "units", "rattle", "beside", "ratio"
     section("insns")
     if (has_small) section("small")
     if ("ns" in title) section("ns")
