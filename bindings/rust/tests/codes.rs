@@ -42,7 +42,12 @@ fn listed(instruction: &Instruction) -> String {
         text += &format!(" {}", operand.spec.name());
         if let Some(number) = operand.number {
             let digits = digits(operand.spec.name());
-            text += &format!("={:0digits$X}", u64::from(number) % (1 << (4 * digits)));
+            let sign = match operand.spec {
+                OperandSpec::Disp8_FB | OperandSpec::Disp8 if number < 0 => "-",
+                OperandSpec::Disp8_FB | OperandSpec::Disp8 => "+",
+                _ => "",
+            };
+            text += &format!("={sign}{:0digits$X}", number.unsigned_abs() % (1 << (4 * digits)));
         }
     }
     text
@@ -79,13 +84,13 @@ fn encoded(instruction: &Instruction) -> Result<Vec<u8>, Refusal> {
 }
 
 /// Two instructions are the same if this agrees.
-fn meaning(instruction: &Instruction) -> (Opcode, Width, [Option<(OperandSpec, u32)>; 3]) {
+fn meaning(instruction: &Instruction) -> (Opcode, Width, [Option<(OperandSpec, i64)>; 3]) {
     let operand = |k: u8| instruction.operand(k).map(|operand| based(operand.spec, operand.number.unwrap_or(0)));
     (instruction.opcode, instruction.width, [0, 1, 2].map(operand))
 }
 
 /// Displacements on A0, A1 and SB of 0, 8 and 16 bits are one form.
-fn based(spec: OperandSpec, number: u32) -> (OperandSpec, u32) {
+fn based(spec: OperandSpec, number: i64) -> (OperandSpec, i64) {
     use OperandSpec::*;
     match spec {
         Deref_A0 => (Disp16_A0, 0),
