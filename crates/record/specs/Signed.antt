@@ -26,6 +26,7 @@ signed b = pick (ltb b 0x80) (pos b) (subℕ b 0x100)
 unfoldable pub numberOf : Operand → ℕ → ℤ
 numberOf a v = pick (isSigned a) (signed (v % 0x100)) (pos v)
 
+-- operand k; there are operands 0, 1 and 2
 abbrev pub nameAt : Record → ℕ → Operand
 nameAt r zero = r .op0
 nameAt r (suc zero) = r .op1
