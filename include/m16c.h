@@ -6,8 +6,8 @@
  *
  * An instruction is a record of M16C_NUMBERS numbers; names are numbers too. The enumerators have the names as the listing spells them,
  * in upper case: Disp8_A0 is M16C_OPERAND_DISP8_A0. The number that belongs to an operand is in IMM_WIDE or in DISPABS; where two
- * operands need DISPABS, it has that of operand 0 if this is Disp8_SP, else that of operand 1, and FIRST has the other. MARKED is 1 where
- * decoding departs from the maker's manual; no marked form is ever encoded. */
+ * operands need DISPABS, it has that of operand 0 if this is Disp8_SP, else that of operand 1, and FIRST has the other: m16c_operand_number
+ * tells it, with its sign. MARKED is 1 where decoding departs from the maker's manual; no marked form is ever encoded. */
 #ifndef M16C_H
 #define M16C_H
 
