@@ -14,7 +14,7 @@ pub extern "C" fn m16c_encode(
 ) -> u32
     ensures { λ r. ⌜ EncodesNumbers (now (numbers .entry)) (now (buf .entry)) place (outcome r (now («bytes_written» .exit)) (now (buf .exit))) ⌝ }
 {
-    // Encoding the blank record would refuse them as well, but for all others it takes more instructions.
+    // Encoding the blank record would refuse them as well, in more bytes of code.
     if !from_numbers::is_record(numbers) {
         *bytes_written = 0;
         return refusal::NO_STRING as u32;
