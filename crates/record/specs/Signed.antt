@@ -1,4 +1,4 @@
--- Request A3: an operand's number as the maker's manual counts it.
+-- Request A3: an operand's number as it is counted, with a sign for two names.
 use Prim.Native.Nat.{ℕ, zero, suc, _%_}
 use mathlib.Core.Bool.{Bool}
 use mathlib.Core.List.{List, [], _∷_}
@@ -11,7 +11,7 @@ use Rattle.record.specs.declared.Operand.the-variants.{Nothing, Disp8, �
 use Rattle.record.specs.declared.signed.Number.{Number}
 use Rattle.record.specs.Same.{among, fieldAt, valueOf}
 
--- signed are a displacement from the frame base and a jump's distance, and no other
+-- signed are a displacement from the frame base and a jump's distance, as in the maker's manual, and no other
 abbrev pub signedNames : List Operand
 signedNames = «Disp8_FB» ∷ Disp8 ∷ []
 
