@@ -1,10 +1,8 @@
 -- `line::words::distance` meets its contract.
 -- Assumes nothing.
-use Prim.Native.Nat.{ℕ}
-use mathlib.Core.Path.{sym, ap, subst, _∙_}
+use mathlib.Core.Path.{ap}
 use native.Mathlib.Omega.{arith}
-use lib.IntN.{ℤ, natAbs}
-use mir.Facts.{toZ-ofZ}
+use lib.IntN.{natAbs}
 use borrow.Author.Needs.{needs}
 use Rattle.line.proofs.Signs.{above, between-fits, between-read, one-more, unsigned}
 use Rattle.line.proofs.words.distance.Statement.{statement}

@@ -1,7 +1,7 @@
 -- `line::words::number_word` meets its contract.
 -- Assumes nothing.
 use Prim.Native.Nat.{_+_, _*_, _<_}
-use mathlib.Core.Path.{_≡_, refl, sym, ap, _∙_}
+use mathlib.Core.Path.{refl, sym, ap, _∙_}
 use native.Mathlib.Omega.{arith}
 use lib.IntN.{ℤ, natAbs}
 use mir.Facts.{toZ-ofZ}

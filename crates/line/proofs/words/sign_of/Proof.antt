@@ -1,10 +1,8 @@
 -- `line::words::sign_of` meets its contract.
 -- Assumes nothing.
-use mathlib.Core.Path.{sym, ap}
+use mathlib.Core.Path.{sym, ap, _∙_}
 use native.Mathlib.Omega.{arith}
 use mir.Facts.{toZ-ofZ}
-use Prim.Native.Nat.{ℕ}
-use mathlib.Core.Path.{_≡_, _∙_}
 use Rattle.line.specs.Line.{signText}
 use Rattle.line.specs.steps.Packed.{pack}
 use Rattle.line.proofs.Signs.{below, above}
