@@ -7,7 +7,8 @@
  * An instruction is a record of M16C_NUMBERS numbers; names are numbers too. The enumerators have the names as the listing spells them,
  * in upper case: Disp8_A0 is M16C_OPERAND_DISP8_A0. The number that belongs to an operand is in IMM_WIDE or in DISPABS; where two
  * operands need DISPABS, it has that of operand 0 if this is Disp8_SP, else that of operand 1, and FIRST has the other: m16c_operand_number
- * tells it, with its sign. MARKED is 1 where decoding departs from the maker's manual; no marked form is ever encoded. */
+ * tells it, with its sign. MARKED is 1 where decoding departs from the maker's manual; no marked form is ever encoded. DROPPED is 1 where
+ * a 20-bit number was read from three bytes of which the upper four bits, which are not kept, were not all zero; zeros are encoded there. */
 #ifndef M16C_H
 #define M16C_H
 
@@ -29,7 +30,7 @@ extern "C" {
 enum m16c_length {
     M16C_LONGEST_IMAGE = 4096, /* the longest image that is swept, in bytes */
     M16C_LONGEST_INSTRUCTION = 7, /* the longest instruction, in bytes */
-    M16C_LONGEST_LINE = 112 /* room that is enough for every line, in bytes */
+    M16C_LONGEST_LINE = 120 /* room that is enough for every line, in bytes */
 };
 
 /* What a function returns. */
@@ -58,7 +59,8 @@ enum m16c_number {
     M16C_FIRST = 9,
     M16C_LENGTH = 10,
     M16C_MARKED = 11,
-    M16C_NUMBERS = 12
+    M16C_DROPPED = 12,
+    M16C_NUMBERS = 13
 };
 
 /* The width that decoding starts with, by the first byte. */
@@ -239,12 +241,12 @@ enum m16c_operand {
 /* End of what is made */
 
 /* Made by scripts/interface: functions */
-/* Decodes at a place of an image. Returns the refusal, 0 for none, and fills twelve entries: taken, opcode, size, width, three
- * operands, imm_wide, dispabs, first, length, marked. With fewer than twelve entries it returns 6 and touches none. */
+/* Decodes at a place of an image. Returns the refusal, 0 for none, and fills thirteen entries: taken, opcode, size, width, three
+ * operands, imm_wide, dispabs, first, length, marked, dropped. With fewer than thirteen entries it returns 6 and touches none. */
 uint32_t m16c_decode(const uint8_t *image, size_t image_length, size_t at, uint32_t *out, size_t out_length);
 
-/* Encodes the record of twelve numbers, in the order that m16c_decode fills, from a place of a buffer on. Taken, length and marked do
- * not count. Returns 0 and leaves the number of bytes written, or 5 or 6 with 0 and the buffer as it was. */
+/* Encodes the record of the first twelve numbers that m16c_decode fills, from a place of a buffer on. Taken, length and marked do not
+ * count, nor what stands behind. Returns 0 and leaves the number of bytes written, or 5 or 6 with 0 and the buffer as it was. */
 uint32_t m16c_encode(const uint32_t *numbers, size_t numbers_length, uint8_t *buf, size_t buf_length, size_t place, size_t *bytes_written);
 
 /* The starts of an image's instructions, from 0 to its end or the first refusal. Returns that refusal, 0 at the end, or 7 or 6, and
@@ -255,9 +257,9 @@ uint32_t m16c_sweep(const uint8_t *image, size_t image_length, uint16_t *starts,
  * the line's length; or decoding's refusal, or 6 where the line has no room, with length 0 and the buffer as it was. */
 uint32_t m16c_line(const uint8_t *image, size_t image_length, size_t at, uint8_t *out, size_t out_length, size_t *line_length);
 
-/* The number of operand k of the record of twelve numbers, in the order that m16c_decode fills: signed for Disp8_FB and Disp8, whose low
- * byte counts from -128 to 127, and for any other name its field as it is. Taken, length and marked do not count. Returns 0 and
- * leaves the number; or 5 and 0 where the numbers make no record or it has no operand k with a number. */
+/* The number of operand k of the record of the first twelve numbers that m16c_decode fills: signed for Disp8_FB and Disp8, whose low byte
+ * counts from -128 to 127, and for any other name its field as it is. Taken, length and marked do not count, nor what stands behind.
+ * Returns 0 and leaves the number; or 5 and 0 where the numbers make no record or it has no operand k with a number. */
 uint32_t m16c_operand_number(const uint32_t *numbers, size_t numbers_length, size_t k, int64_t *number);
 /* End of what is made */
 

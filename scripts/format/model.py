@@ -18,6 +18,7 @@ class Record:
     first: int = 0
     length: int = 0
     marked: bool = False
+    dropped: bool = False
 
 
 @dataclass(frozen=True)
@@ -42,23 +43,24 @@ class Model:
         return self.run(self.page.codes[bs[0], bs[1]], bs)
 
     def run(self, code, bs):
-        opcode, wide, dispabs, first, at = code.opcode, code.number, 0, 0, 2
+        opcode, wide, dispabs, first, dropped, at = code.opcode, code.number, 0, 0, False, 2
         for step, size in code.steps:
             if step == STOP:
                 return Answer(size, at)
             if len(bs) < at + size:
                 return Answer(1, len(bs))
-            number = int.from_bytes(bs[at:at + size], "little") & MASKS[size]
+            whole = int.from_bytes(bs[at:at + size], "little")
+            number = whole & MASKS[size]
             at += size
             if step == DISPLACEMENT:
                 dispabs, first = number, dispabs
             elif step == IMMEDIATE:
-                wide = number
+                wide, dropped = number, whole != number
             elif step == CONDITION:
                 if number not in self.page.conditions:
                     return Answer(2, at)
                 opcode = self.page.conditions[number]
-        return Answer(0, at, Record(opcode, code.size, code.width, code.operands + ("Nothing",), wide, dispabs, first, at, code.marked))
+        return Answer(0, at, Record(opcode, code.size, code.width, code.operands + ("Nothing",), wide, dispabs, first, at, code.marked, dropped))
 
     # Whose number is where
 
@@ -137,7 +139,7 @@ class Model:
         for k, name in enumerate(r.operands):
             if name != "Nothing":
                 words.append(name + self.after(name, self.number(r, k)))
-        return " ".join(words)
+        return " ".join(words + ["!"] * r.dropped)
 
     def after(self, name, number):
         """What is shown of a number behind its name."""

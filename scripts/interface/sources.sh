@@ -31,7 +31,7 @@ numbered_lengths() {
     cat <<'LIST'
 4096 longest_image the longest image that is swept, in bytes
 7 longest_instruction the longest instruction, in bytes
-112 longest_line room that is enough for every line, in bytes
+120 longest_line room that is enough for every line, in bytes
 LIST
 }
 

@@ -8,19 +8,19 @@ pub const LONGEST_IMAGE: usize = 4096;
 pub const LONGEST_INSTRUCTION: usize = 7;
 
 /// Room that is enough for every line, in bytes.
-pub const LONGEST_LINE: usize = 112;
+pub const LONGEST_LINE: usize = 120;
 
 extern "C" {
-    /// Decodes at a place of an image. Returns the refusal, 0 for none, and fills twelve entries: taken, opcode, size, width, three
-    /// operands, imm_wide, dispabs, first, length, marked. With fewer than twelve entries it returns 6 and touches none.
+    /// Decodes at a place of an image. Returns the refusal, 0 for none, and fills thirteen entries: taken, opcode, size, width, three
+    /// operands, imm_wide, dispabs, first, length, marked, dropped. With fewer than thirteen entries it returns 6 and touches none.
     pub fn m16c_decode(
         image: *const u8, image_length: usize,
         at: usize,
         out: *mut u32, out_length: usize,
     ) -> u32;
 
-    /// Encodes the record of twelve numbers, in the order that m16c_decode fills, from a place of a buffer on. Taken, length and marked do
-    /// not count. Returns 0 and leaves the number of bytes written, or 5 or 6 with 0 and the buffer as it was.
+    /// Encodes the record of the first twelve numbers that m16c_decode fills, from a place of a buffer on. Taken, length and marked do not
+    /// count, nor what stands behind. Returns 0 and leaves the number of bytes written, or 5 or 6 with 0 and the buffer as it was.
     pub fn m16c_encode(
         numbers: *const u32, numbers_length: usize,
         buf: *mut u8, buf_length: usize,
@@ -46,9 +46,9 @@ extern "C" {
         line_length: *mut usize,
     ) -> u32;
 
-    /// The number of operand k of the record of twelve numbers, in the order that m16c_decode fills: signed for Disp8_FB and Disp8, whose low
-    /// byte counts from -128 to 127, and for any other name its field as it is. Taken, length and marked do not count. Returns 0 and
-    /// leaves the number; or 5 and 0 where the numbers make no record or it has no operand k with a number.
+    /// The number of operand k of the record of the first twelve numbers that m16c_decode fills: signed for Disp8_FB and Disp8, whose low byte
+    /// counts from -128 to 127, and for any other name its field as it is. Taken, length and marked do not count, nor what stands behind.
+    /// Returns 0 and leaves the number; or 5 and 0 where the numbers make no record or it has no operand k with a number.
     pub fn m16c_operand_number(
         numbers: *const u32, numbers_length: usize,
         k: usize,

@@ -20,6 +20,20 @@ pub struct Instruction {
     pub length: u8,
     /// Whether decoding departs from the maker's manual here.
     pub marked: bool,
+    /// Whether a 20-bit number was read from three bytes of which the upper four bits, which are not kept, were not all zero. Its line
+    /// then ends in ` !`; encoding writes zeros there.
+    ///
+    /// ```
+    /// let bytes = [0x74, 0x00, 0x61, 0xFE, 0x16];
+    /// let stored = m16c::decode(&bytes, 0).expect("an instruction");
+    /// assert!(stored.dropped);
+    /// assert_eq!(m16c::line(&bytes, 0).expect("a line").as_str(), "0000 5 B STE R0L Abs20=6FE61 !");
+    ///
+    /// let mut patch = [0; 5];
+    /// assert_eq!(m16c::encode(&stored, &mut patch, 0), Ok(5));
+    /// assert_eq!(patch, [0x74, 0x00, 0x61, 0xFE, 0x06]);
+    /// ```
+    pub dropped: bool,
 }
 
 /// An operand with the number that belongs to it, if its form has one.
@@ -42,6 +56,7 @@ impl Default for Instruction {
             first: 0,
             length: 0,
             marked: false,
+            dropped: false,
         }
     }
 }
@@ -69,6 +84,7 @@ impl Instruction {
             first: numbers[index::FIRST].try_into().ok()?,
             length: numbers[index::LENGTH].try_into().ok()?,
             marked: numbers[index::MARKED] != 0,
+            dropped: numbers[index::DROPPED] != 0,
         })
     }
 

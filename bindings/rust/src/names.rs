@@ -787,5 +787,6 @@ pub(crate) mod index {
     pub const FIRST: usize = 9;
     pub const LENGTH: usize = 10;
     pub const MARKED: usize = 11;
-    pub const NUMBERS: usize = 12;
+    pub const DROPPED: usize = 12;
+    pub const NUMBERS: usize = 13;
 }

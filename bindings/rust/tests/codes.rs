@@ -50,6 +50,9 @@ fn listed(instruction: &Instruction) -> String {
             text += &format!("={sign}{:0digits$X}", number.unsigned_abs() % (1 << (4 * digits)));
         }
     }
+    if instruction.dropped {
+        text += " !";
+    }
     text
 }
 

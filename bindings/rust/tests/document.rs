@@ -31,6 +31,7 @@ fn accepted_lines() {
             first: 0,
             length: 7,
             marked: false,
+            dropped: true,
         }
     );
     let rotated = accepted(&[0x75, 0x63]);
@@ -53,6 +54,18 @@ fn refused_lines() {
     assert_eq!(refused(&[0x7B, 0x88]), (3, 2));
     assert_eq!(refused(&[0x7A, 0x88]), (1, 2));
     assert_eq!(refused(&[0x7E, 0x20, 0x05, 0x07]), (2, 4));
+}
+
+#[test]
+fn dropped_bits() {
+    let (kept, dropped) = ([0x74, 0x00, 0x61, 0xFE, 0x06], [0x74, 0x00, 0x61, 0xFE, 0x16]);
+    assert_eq!(accepted(&dropped), Instruction { dropped: true, ..accepted(&kept) });
+    assert!(!accepted(&kept).dropped);
+    assert_eq!(encoded(&dropped), kept);
+    // No other number has bits to drop.
+    assert!(!accepted(&[0x77, 0x4C, 0xFF, 0xFF, 0xFF, 0xFF]).dropped);
+    assert_eq!(line(&kept, 0).map(|line| line.to_string()), Ok("0000 5 B STE R0L Abs20=6FE61".to_string()));
+    assert_eq!(line(&dropped, 0).map(|line| line.to_string()), Ok("0000 5 B STE R0L Abs20=6FE61 !".to_string()));
 }
 
 #[test]

@@ -2,21 +2,22 @@
 
 use std::ptr::{null, null_mut};
 
-use m16c::c::{m16c_decode, m16c_encode, m16c_line, m16c_operand_number, m16c_sweep};
+use m16c::c::{LONGEST_LINE, m16c_decode, m16c_encode, m16c_line, m16c_operand_number, m16c_sweep};
 
 const EXHAUSTED_INPUT: u32 = 1;
 const NO_STRING: u32 = 5;
 const TOO_LITTLE_ROOM: u32 = 6;
+const NUMBERS: usize = 13;
 
 #[test]
 fn no_image() {
-    let (mut record, mut line, mut starts) = ([9; 12], [9; 112], [9; 3]);
+    let (mut record, mut line, mut starts) = ([9; NUMBERS], [9; LONGEST_LINE], [9; 3]);
     let (mut length, mut count, mut place) = (9, 9, 9);
     for at in [0, 1, usize::MAX] {
         let decoded = unsafe { m16c_decode(null(), 0, at, record.as_mut_ptr(), record.len()) };
-        assert_eq!((decoded, record), (EXHAUSTED_INPUT, [0; 12]));
+        assert_eq!((decoded, record), (EXHAUSTED_INPUT, [0; NUMBERS]));
         let listed = unsafe { m16c_line(null(), 0, at, line.as_mut_ptr(), line.len(), &mut length) };
-        assert_eq!((listed, line, length), (EXHAUSTED_INPUT, [9; 112], 0));
+        assert_eq!((listed, line, length), (EXHAUSTED_INPUT, [9; LONGEST_LINE], 0));
     }
     let swept = unsafe { m16c_sweep(null(), 0, starts.as_mut_ptr(), starts.len(), &mut count, &mut place) };
     assert_eq!((swept, starts, count, place), (0, [9; 3], 0, 0));
@@ -25,7 +26,7 @@ fn no_image() {
 #[test]
 fn no_room() {
     let image = [0xEB, 0xC5];
-    let mut record = [9; 12];
+    let mut record = [9; NUMBERS];
     let (mut length, mut count, mut place) = (9, 9, 9);
     let decoded = unsafe { m16c_decode(image.as_ptr(), image.len(), 0, record.as_mut_ptr(), record.len()) };
     assert_eq!(decoded, 0);

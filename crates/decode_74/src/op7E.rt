@@ -69,6 +69,7 @@ fn conditional(bs: &[u8], name: Operand, s: Seen) -> Answer
         imm_wide: s.imm_wide,
         dispabs: s.dispabs,
         first: s.first,
+        dropped: s.dropped,
         taken: at + 1,
     };
     if c < 0x07 {

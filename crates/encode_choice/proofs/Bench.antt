@@ -1,10 +1,10 @@
--- The P lines hold of the definitions.
+-- The P lines, and the line of request A6, hold of the definitions.
 -- Assumes nothing.
 use mathlib.Core.Path.{refl}
 use Rattle.record.specs.Same.{sameName, among, fieldOf, baseOf}
 use Rattle.rows.specs.Codes.{condOf}
 use Rattle.rows.specs.Rows.{known, rowsOf}
-use Rattle.rows.specs.Run.{decodeBy, runRow, run, readDisp, readImm}
+use Rattle.rows.specs.Run.{decodeBy, runRow, run, readDisp, readInto}
 use Rattle.encode_rules.specs.steps.Search.{condByte, disps, imms, conds, spell, aim, bytesBy}
 use Rattle.encode_rules.specs.steps.Can.{fits, can}
 use Rattle.encode_rules.specs.steps.Direct.{able, taken}
@@ -15,7 +15,7 @@ use Rattle.encode_rules.specs.Bench.{lines, Hold}
 use Rattle.encode_choice.proofs.Encoded.{right-bytes}
 
 pub bench : Hold lines
-unfolding decodeBy runRow run readDisp readImm condOf known rowsOf taken able can fits bytesBy spell aim
+unfolding decodeBy runRow run readDisp readInto condOf known rowsOf taken able can fits bytesBy spell aim
     chooseNamed dropsZero goesWith formOf among sameName chooseBy place condByte disps imms conds fieldOf baseOf whole
 bench =
-    (refl, (refl, (refl, (refl, (refl, (refl, (refl, (refl, (refl, (refl, (refl, (refl, (refl, (refl, (right-bytes _ _ refl, (right-bytes _ _ refl, tt))))))))))))))))
+    (refl, (refl, (refl, (refl, (refl, (refl, (refl, (refl, (refl, (refl, (refl, (refl, (refl, (refl, (right-bytes _ _ refl, (right-bytes _ _ refl, (right-bytes _ _ refl, tt)))))))))))))))))

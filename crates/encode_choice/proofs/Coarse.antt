@@ -1,6 +1,6 @@
 -- A test over coarse keys speaks for all keys.
 -- Assumes nothing.
-use Prim.Native.Nat.{ℕ, zero, suc, _^_, _≤_, _<_}
+use Prim.Native.Nat.{ℕ, zero, suc, _≤_, _<_}
 use mathlib.Core.Path.{_≡_, refl, sym, ap, ap₂, _∙_, subst}
 use mathlib.Core.Bool.{Bool, true, false}
 use mathlib.Core.List.{List, [], _∷_}
@@ -21,7 +21,6 @@ use Rattle.record.specs.Same.{sameName, fieldOf, baseOf}
 use Rattle.record.proofs.Apart.{opcodes-apart}
 use Rattle.rows.specs.Row.{disp, imm, imm20, Read, num, cond, stop, Row, Table}
 use Rattle.rows.specs.Codes.{condOf}
-use Rattle.rows.specs.Fate.{fate}
 use Rattle.rows.specs.Run.{twentyBits}
 use Rattle.encode_rules.specs.steps.Search.{means, condByte, disps, imms, conds, nth, live, aim, wideFor, dispFor, firstFor}
 use Rattle.encode_rules.specs.steps.Can.{exact, fits, named, can}
@@ -30,7 +29,7 @@ use Rattle.encode_choice.specs.steps.Coarse.{classOf, rep, whole, wholeK
 use Rattle.encode_choice.specs.steps.Coarse.{keyAt, span, onCond, opcodes, beatsb, ifb, good, liveTest, codeTest}
 use Rattle.encode_rules.proofs.Bools.{so, both-true, both-so}
 use Rattle.encode_rules.proofs.Condition.{so-means, cond-small}
-use Rattle.encode_rules.proofs.Runs.{own}
+use Rattle.encode_rules.proofs.Fill.{cond-in}
 use Rattle.encode_rules.proofs.Order.{first-true}
 use Rattle.encode_rules.proofs.Plain.{live-is}
 use Rattle.encode_rules.proofs.Can.{Parts, parts}
@@ -191,16 +190,6 @@ can-coarse w k h e =
     (both (eqb (operandNo (baseOf (w .face .op0))) (operandNo (k .base0)))
     (both (eqb (operandNo (baseOf (w .face .op1))) (operandNo (k .base1)))
     (both (eqb (operandNo (baseOf Nothing)) (operandNo (k .base2))) (both (two i) (both (x0 i) (both (x1 i) (f i))))))))))
-
-cond-in : (rs : List Read) (s : Record) → 1 ≤ conds rs → fate rs ≡ 0 → fits rs s ≡ true → means (condOf (condByte (s .opcode))) (s .opcode) ≡ true
-unfolding fits conds
-cond-in [] s l h f = absurd (omega arith)
-cond-in (num (disp zero) ∷ rs) s l h f = cond-in rs s l h f
-cond-in (num (disp (suc n)) ∷ rs) s l h f = cond-in rs s l h (both-true (ltb (nth (disps rs) s) (256 ^ suc n)) (fits rs s) f .1)
-cond-in (num (imm n) ∷ rs) s l h f = cond-in rs s l h (both-true (ltb (s .«imm_wide») (256 ^ n)) (fits rs s) f .1)
-cond-in (num imm20 ∷ rs) s l h f = cond-in rs s l h (both-true (ltb (s .«imm_wide») twentyBits) (fits rs s) f .1)
-cond-in (cond ∷ rs) s l h f = both-true (means (condOf (condByte (s .opcode))) (s .opcode)) (fits rs s) f .0
-cond-in (stop e ∷ rs) s l h f = absurd (own e h)
 
 true-t : {b : Bool} → b ≡ true → T b
 true-t {b} e = subst T (sym e) tt

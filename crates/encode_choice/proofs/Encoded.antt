@@ -15,6 +15,8 @@ use Rattle.rows.proofs.Length.{two-to-seven}
 use Rattle.encode_rules.specs.Says.{Says, Best, bytes, Right}
 use Rattle.encode_rules.specs.steps.Direct.{taken}
 use Rattle.encode_rules.proofs.Consequences.{all-taken, length-is, no-longer}
+use Rattle.encode_rules.proofs.Optimal.{none-dropped}
+use Rattle.encode_rules.proofs.Here.{plains}
 use Rattle.encode_choice.specs.steps.Choose.{choose, encoded}
 use Rattle.encode_choice.proofs.Chosen.{chosen}
 
@@ -25,6 +27,10 @@ right-bytes r bs e = subst (Right document01 r) e (chosen r)
 -- they decode to the same instruction, which has their number as its length
 pub decodes-back : (r : Record) (bs : List ℕ) → encoded r ≡ bytes bs → Says document01 bs r × (decodeRows bs .inst .length ≡ length bs)
 decodes-back r bs e = let b = right-bytes r bs e in (b .says, length-is document01 r bs b)
+
+-- request A6: and drop nothing
+pub drops-nothing : (r : Record) (bs : List ℕ) → encoded r ≡ bytes bs → decodeRows bs .inst .dropped ≡ false
+drops-nothing r bs e = none-dropped document01 plains r bs (right-bytes r bs e)
 
 -- there are two to seven of them
 pub two-to-seven-bytes : (r : Record) (bs : List ℕ) → encoded r ≡ bytes bs → (2 ≤ length bs) × (length bs ≤ 7)

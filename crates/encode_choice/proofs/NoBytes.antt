@@ -14,7 +14,7 @@ use Rattle.record.specs.Same.{sameName, among, fieldOf, baseOf}
 use Rattle.record.specs.Signed.{isSigned, numberOf, numberAt}
 use Rattle.rows.specs.Codes.{condOf}
 use Rattle.rows.specs.Rows.{document01, known, rowsOf}
-use Rattle.rows.specs.Run.{decodeBy, runRow, run, readDisp, readImm}
+use Rattle.rows.specs.Run.{decodeBy, runRow, run, readDisp, readInto}
 use Rattle.encode_rules.specs.Says.{bytes, none, Right}
 use Rattle.encode_rules.specs.steps.Search.{condByte, disps, imms, conds, spell, aim, bytesBy}
 use Rattle.encode_rules.specs.steps.Can.{fits, can}
@@ -27,7 +27,7 @@ use Rattle.encode_choice.proofs.Encoded.{right-bytes}
 
 -- the blank record, so that what makes no record has no bytes
 pub no-blank : Right document01 blank none
-unfolding decodeBy runRow run readDisp readImm condOf known rowsOf taken able can fits bytesBy spell aim
+unfolding decodeBy runRow run readDisp readInto condOf known rowsOf taken able can fits bytesBy spell aim
     chooseNamed dropsZero goesWith formOf among sameName chooseBy place condByte disps imms conds fieldOf baseOf whole
 no-blank = chosen blank
 
@@ -45,6 +45,7 @@ negated v = record {
   op1 = Nothing;
   op2 = Nothing;
   marked = false;
+  dropped = false;
 }
 
 -- request A3: encoding goes by what a field holds, and not by the number that it is counted as: one number, and one of the two has bytes
@@ -52,6 +53,6 @@ pub by-the-field :
     (numberAt (negated 0x01F0) 0 ≡ numberAt (negated 0x00F0) 0)
     × Right document01 (negated 0x00F0) (bytes (0x74 ∷ 0x5B ∷ 0xF0 ∷ []))
     × Right document01 (negated 0x01F0) none
-unfolding isSigned numberOf decodeBy runRow run readDisp readImm condOf known rowsOf taken able can fits bytesBy spell aim
+unfolding isSigned numberOf decodeBy runRow run readDisp readInto condOf known rowsOf taken able can fits bytesBy spell aim
     chooseNamed dropsZero goesWith formOf among sameName chooseBy place condByte disps imms conds fieldOf baseOf whole
 by-the-field = (refl, right-bytes _ _ refl, chosen (negated 0x01F0))

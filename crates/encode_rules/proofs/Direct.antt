@@ -112,7 +112,7 @@ module _ (t : Table) (plains : (a b : ℕ) → t .known a ≡ true → b < 256 �
         at (code x y) f a b xs s h =
             let q = code-can a b xs r h s in
             let g = f a b q in
-            (x, y, refl, g .0, ahead-trans (ranked x y a b (key r) (able-is x y (key r) (g .0)) (able-is a b (key r) q) (g .1)) (by-code t plains a b xs r h s .1))
+            (x, y, refl, g .0, ahead-trans (ranked x y a b (key r) (able-is x y (key r) (g .0)) (able-is a b (key r) q) (g .1)) (by-code t plains a b xs r h s .ahead))
         at nothing f a b xs s h = absurd (f a b (code-can a b xs r h s))
 
     pub direct : (r : Record) → Right t r (taken t (choose (key r)) (key r))

@@ -14,7 +14,7 @@ use Rattle.record.specs.declared.Seen.{Seen}
 use Rattle.rows.specs.Row.{disp, imm, imm20, Read, num, cond, stop, named, Face}
 use Rattle.rows.specs.Codes.{condOf}
 use Rattle.rows.specs.Fate.{fate}
-use Rattle.rows.specs.Run.{withDisp, withImm, twentyBits, past, renamed}
+use Rattle.rows.specs.Run.{withDisp, inFull, inTwenty, twentyBits, past, renamed}
 use Rattle.encode_rules.specs.steps.Search.{means, condByte, disps, imms, conds, nth, spell, tidy}
 use Rattle.encode_rules.specs.steps.Can.{fits}
 use Rattle.encode_rules.proofs.Bools.{both-true, both-so}
@@ -67,13 +67,24 @@ fits-same (num imm20 ∷ rs) t s o i d f = ap₂ (λ v b. both (ltb v twentyBits
 fits-same (cond ∷ rs) t s o i d f = ap₂ (λ v b. both (means (condOf (condByte v)) v) b) o (fits-same rs t s o i d f)
 fits-same (stop e ∷ rs) t s o i d f = refl
 
+-- a condition among the reads has a byte
+pub cond-in : (rs : List Read) (s : Record) → 1 ≤ conds rs → fate rs ≡ 0 → fits rs s ≡ true → means (condOf (condByte (s .opcode))) (s .opcode) ≡ true
+unfolding fits conds
+cond-in [] s l h f = absurd (omega arith)
+cond-in (num (disp zero) ∷ rs) s l h f = cond-in rs s l h f
+cond-in (num (disp (suc n)) ∷ rs) s l h f = cond-in rs s l h (both-true (ltb (nth (disps rs) s) (256 ^ suc n)) (fits rs s) f .1)
+cond-in (num (imm n) ∷ rs) s l h f = cond-in rs s l h (both-true (ltb (s .«imm_wide») (256 ^ n)) (fits rs s) f .1)
+cond-in (num imm20 ∷ rs) s l h f = cond-in rs s l h (both-true (ltb (s .«imm_wide») twentyBits) (fits rs s) f .1)
+cond-in (cond ∷ rs) s l h f = both-true (means (condOf (condByte (s .opcode))) (s .opcode)) (fits rs s) f .0
+cond-in (stop e ∷ rs) s l h f = absurd (own e h)
+
 -- from names f and numbers s, with a's numbers
 abbrev pub fill : List Read → Record → Face → Seen → Record
 fill [] a f s = made f s
 fill (num (disp zero) ∷ rs) a f s = fill rs a f s
 fill (num (disp (suc n)) ∷ rs) a f s = fill rs a f (withDisp (suc n) (nth (disps rs) a) s)
-fill (num (imm n) ∷ rs) a f s = fill rs a f (withImm n (a .«imm_wide» % 256 ^ n) s)
-fill (num imm20 ∷ rs) a f s = fill rs a f (withImm 3 (a .«imm_wide» % twentyBits) s)
+fill (num (imm n) ∷ rs) a f s = fill rs a f (inFull n (a .«imm_wide») s)
+fill (num imm20 ∷ rs) a f s = fill rs a f (inTwenty (a .«imm_wide») s)
 fill (cond ∷ rs) a f s = fill rs a (renamed (a .opcode) f) (past s)
 fill (stop e ∷ rs) a f s = made f s
 
@@ -135,14 +146,14 @@ filled (num (disp (suc n)) ∷ rs) a f s c h g =
 filled (num (imm n) ∷ rs) a f s c h g =
     let b = both-true _ _ c in
     let d = both-true _ _ g in
-    let s′ = withImm n (a .«imm_wide» % 256 ^ n) s in
+    let s′ = inFull n (a .«imm_wide») s in
     let k = filled rs a f s′ (b .1) h (d .1) in
     let m = kept rs (spell rs a) f s′ (fill rs a f s′) (reach rs a f s′ h (d .1)) in
     record { disp = k .disp; first = k .first; number = λ l. m .number (eqb-true _ _ (b .0)) ∙ mod-eq-of-lt (ltb-true _ _ (d .0)); opcode = k .opcode }
 filled (num imm20 ∷ rs) a f s c h g =
     let b = both-true _ _ c in
     let d = both-true _ _ g in
-    let s′ = withImm 3 (a .«imm_wide» % twentyBits) s in
+    let s′ = inTwenty (a .«imm_wide») s in
     let k = filled rs a f s′ (b .1) h (d .1) in
     let m = kept rs (spell rs a) f s′ (fill rs a f s′) (reach rs a f s′ h (d .1)) in
     record { disp = k .disp; first = k .first; number = λ l. m .number (eqb-true _ _ (b .0)) ∙ mod-eq-of-lt (ltb-true _ _ (d .0)); opcode = k .opcode }

@@ -14,12 +14,13 @@ use Rattle.record.specs.declared.Answer.{Answer}
 use Rattle.record.specs.Numbers.{opcodeNo, sizeNo, widthNo, operandNo}
 use Rattle.record.specs.declared.Key.{Key}
 use Rattle.record.specs.Same.{key}
+use Rattle.record.proofs.Same.{dropping, same-dropping}
 use Rattle.record.proofs.Apart.{opcodes-apart, sizes-apart, widths-apart, operands-apart}
 use Rattle.rows.specs.Bytes.{Bytes}
 use Rattle.rows.specs.Row.{disp, imm, imm20, Read, num, cond, stop, Table}
 use Rattle.rows.specs.Run.{runRow, begun, decodeBy, refusal}
 use Rattle.encode_rules.specs.steps.Digits.{digits}
-use Rattle.encode_rules.specs.Says.{Ahead, Says, Found, bytes, none, Right}
+use Rattle.encode_rules.specs.Says.{Ahead, Says, Best, Found, bytes, none, Right}
 use Rattle.encode_rules.specs.steps.Search.{disps, imms, spell, aim, other, plain, alike, agrees, aheadb, better, bytesBy, leastOf, try, best}
 use Rattle.encode_rules.proofs.Bools.{both-true, both-so}
 use Rattle.encode_rules.proofs.Runs.{good, Runs, from-run, to-run}
@@ -163,14 +164,17 @@ module _ (t : Table) where
         same = s .same;
       }
 
-  -- and bytes whose row runs to such a record encode r
-  pub back : (a b : ℕ) (xs : List ℕ) (r : Record) → Ran a b xs r → Says t (a ∷ b ∷ xs) r
+  -- and bytes whose row runs to such a record decode to it, and encode r
+  run-to : (a b : ℕ) (xs : List ℕ) (r : Record) (h : Ran a b xs r) → decodeBy t (a ∷ b ∷ xs) ≡ good (h .into)
   unfolding decodeBy runRow
-  back a b xs r h =
+  run-to a b xs r h =
       let w = t .rowAt a b in
-      let e : decodeBy t (a ∷ b ∷ xs) ≡ good (h .into) =
       ap (λ x. pick x (runRow w (a ∷ b ∷ xs)) (refusal 4 1)) (h .known)
-      ∙ to-run (w .reads) xs (a ∷ b ∷ xs) (w .face) (begun (w .number)) (h .into) (omega arith) refl (h .runs) in
+      ∙ to-run (w .reads) xs (a ∷ b ∷ xs) (w .face) (begun (w .number)) (h .into) (omega arith) refl (h .runs)
+
+  pub back : (a b : ℕ) (xs : List ℕ) (r : Record) → Ran a b xs r → Says t (a ∷ b ∷ xs) r
+  back a b xs r h =
+      let e = run-to a b xs r h in
       record { accepted = ap (λ x. x .refusal) e; unmarked = ap (λ x. x .inst .marked) e ∙ h .unmarked; same = ap (λ x. key (x .inst)) e ∙ h .same }
 
   -- fewer than two bytes encode nothing
@@ -199,21 +203,29 @@ module _ (t : Table) where
   unfolding try
   taken-so a b r s = ap (λ x. pick x (bytes (bytesBy t a b (key r))) none) (says-so (bytesBy t a b (key r)) r s)
 
+  made-bytes : (a b : ℕ) (r : Record) → a < 256 → b < 256 → Bytes (bytesBy t a b (key r))
+  unfolding bytesBy
+  made-bytes a b r ha hb = (ha, (hb, spell-bytes (t .rowAt a b .reads) (aim (t .rowAt a b .face) (key r))))
+
   -- and only then
   so-taken : (a b : ℕ) (r : Record) (xs : List ℕ) → a < 256 → b < 256 → try t a b (key r) ≡ bytes xs → Bytes xs × Says t xs r
-  unfolding try bytesBy
+  unfolding try
   so-taken a b r xs ha hb = by (agrees (decodeBy t (bytesBy t a b (key r))) (key r)) refl
     where
       by : (g : Bool) → agrees (decodeBy t (bytesBy t a b (key r))) (key r) ≡ g → pick g (bytes (bytesBy t a b (key r))) none ≡ bytes xs → Bytes xs × Says t xs r
       by true k f =
           let e : bytesBy t a b (key r) ≡ xs = cc in
-          subst (λ ys. Bytes ys × Says t ys r) e ((ha, (hb, spell-bytes (t .rowAt a b .reads) (aim (t .rowAt a b .face) (key r)))), so-says (bytesBy t a b (key r)) r k)
+          subst (λ ys. Bytes ys × Says t ys r) e (made-bytes a b r ha hb, so-says (bytesBy t a b (key r)) r k)
       by false k f = let z : _≡_ {A = ℕ} 0 1 = cc in absurd (omega arith)
 
   module _ (plains : (a b : ℕ) → t .known a ≡ true → b < 256 → plain (t .rowAt a b) ≡ true) where
-    -- if any bytes with a code encode r, then so do those that the search makes for this code, and they are ahead
-    pub by-code : (a b : ℕ) (xs : List ℕ) (r : Record) → Bytes (a ∷ b ∷ xs) → Says t (a ∷ b ∷ xs) r
-        → Says t (bytesBy t a b (key r)) r × Ahead (bytesBy t a b (key r)) (a ∷ b ∷ xs)
+    -- if any bytes with a code encode r, then so do those that the search makes for this code, they are ahead, and none of their bits is dropped
+    pub record Spelled (a b : ℕ) (xs : List ℕ) (r : Record) : Type 0 where
+      pub says : Says t (bytesBy t a b (key r)) r
+      pub ahead : Ahead (bytesBy t a b (key r)) (a ∷ b ∷ xs)
+      pub kept : decodeBy t (bytesBy t a b (key r)) .inst .dropped ≡ false
+
+    pub by-code : (a b : ℕ) (xs : List ℕ) (r : Record) → Bytes (a ∷ b ∷ xs) → Says t (a ∷ b ∷ xs) r → Spelled a b xs r
     unfolding bytesBy
     by-code a b xs r h s =
         let w = t .rowAt a b in
@@ -222,16 +234,30 @@ module _ (t : Table) where
         let p = plain-is w (plains a b (q .known) (h .1 .0)) (lives w xs (q .into) (q .runs) (q .unmarked)) in
         let l = least (w .reads) xs (w .face) (begun (w .number)) (q .into) (p .tidy) (q .runs) in
         let e : spell (w .reads) (q .into) ≡ spell (w .reads) (aim (w .face) (key r)) =
-        aimed (w .face) (q .into) (key r) (f .faced .op0) (f .faced .op1) (q .same) (w .reads) (omega (arith, p .disps)) (p .imms) (p .once) in (
-          back a b (spell (w .reads) (aim (w .face) (key r))) r (record {
-            into = q .into;
-            known = q .known;
-            runs = subst (λ ys. Runs (w .reads) ys (w .face) (begun (w .number)) (q .into)) e (l .again);
-            unmarked = q .unmarked;
-            same = q .same;
-          }),
-          below-ahead (bytesBy t a b (key r)) (l .more) (a ∷ b ∷ xs) (le-refl a, (le-refl b, subst (λ ys. Below (ys ++ l .more) xs) e (l .below))),
-        )
+        aimed (w .face) (q .into) (key r) (f .faced .op0) (f .faced .op1) (q .same) (w .reads) (omega (arith, p .disps)) (p .imms) (p .once) in
+        let again : Ran a b (spell (w .reads) (aim (w .face) (key r))) r =
+        record {
+          into = dropping false (q .into);
+          known = q .known;
+          runs = subst (λ ys. Runs (w .reads) ys (w .face) (begun (w .number)) (dropping false (q .into))) e (l .again);
+          unmarked = q .unmarked;
+          same = same-dropping false (q .into) ∙ q .same;
+        } in
+        record {
+          says = back a b (spell (w .reads) (aim (w .face) (key r))) r again;
+          ahead = below-ahead (bytesBy t a b (key r)) (l .more) (a ∷ b ∷ xs) (le-refl a, (le-refl b, subst (λ ys. Below (ys ++ l .more) xs) e (l .below)));
+          kept = ap (λ x. x .inst .dropped) (run-to a b (spell (w .reads) (aim (w .face) (key r))) r again);
+        }
+
+    -- request A6: the right bytes drop nothing, since a zero nibble comes before any other
+    pub none-dropped : (r : Record) (xs : List ℕ) → Best t r xs → decodeBy t xs .inst .dropped ≡ false
+    none-dropped r xs h = says-two (λ xs. Best t r xs → decodeBy t xs .inst .dropped ≡ false) r at xs (h .says) h
+      where
+        at : (a b : ℕ) (xs : List ℕ) → Says t (a ∷ b ∷ xs) r → Best t r (a ∷ b ∷ xs) → decodeBy t (a ∷ b ∷ xs) .inst .dropped ≡ false
+        at a b xs s h =
+            let c = by-code a b xs r (h .bytes) s in
+            let e : bytesBy t a b (key r) ≡ a ∷ b ∷ xs = ahead-same _ _ (c .ahead) (h .least _ (made-bytes a b r (h .bytes .0) (h .bytes .1 .0)) (c .says)) in
+            subst (λ ys. decodeBy t ys .inst .dropped ≡ false) e (c .kept)
 
     -- the pair of bytes that any bytes begin with is one of the search's
     abbrev Met : Record → List ℕ → Type 0
@@ -245,7 +271,7 @@ module _ (t : Table) where
             let c = by-code a b xs r h s in
             let hi : (256 * a + b) / 256 ≡ a = omega (arith, h .1 .0) in
             let lo : (256 * a + b) % 256 ≡ b = omega (arith, h .1 .0) in
-            (256 * a + b, omega (arith, h .0, h .1 .0), bytesBy t a b (key r), ap₂ (λ x y. try t x y (key r)) hi lo ∙ taken-so a b r (c .0), c .1)
+            (256 * a + b, omega (arith, h .0, h .1 .0), bytesBy t a b (key r), ap₂ (λ x y. try t x y (key r)) hi lo ∙ taken-so a b r (c .says), c .ahead)
 
     pub optimal : (r : Record) → Right t r (best t (key r))
     unfolding best

@@ -1,6 +1,6 @@
 -- A row's reads as a relation: the bytes left to read, the names and numbers before, the record after.
 -- Assumes nothing.
-use Prim.Native.Nat.{ℕ, zero, suc, _+_, _-_, _/_, _%_, _^_, _≤_, _<_}
+use Prim.Native.Nat.{ℕ, zero, suc, _+_, _-_, _/_, _^_, _≤_, _<_}
 use mathlib.Core.Path.{_≡_, refl, sym, ap, _∙_}
 use mathlib.Core.Bool.{Bool, true, false}
 use mathlib.Core.List.{List, [], _∷_, _++_}
@@ -16,7 +16,7 @@ use Rattle.record.specs.declared.Seen.{Seen}
 use Rattle.record.specs.declared.Got.the-variants.{On, Short}
 use Rattle.rows.specs.Row.{disp, imm, imm20, Refusal, InvalidOpcode, InvalidOperand, refusalNo, Read, num, cond, stop, Condition, named, unnamed, Face}
 use Rattle.rows.specs.Codes.{condOf}
-use Rattle.rows.specs.Run.{bytes, withDisp, withImm, readDisp, readImm, twentyBits, accepted, refusal, andThen, past, renamed, judged, run}
+use Rattle.rows.specs.Run.{bytes, withDisp, inFull, inTwenty, readDisp, readInto, accepted, refusal, andThen, past, renamed, judged, run}
 use Rattle.rows.proofs.Bytes.{bytes-small}
 use Rattle.encode_rules.specs.steps.Digits.{some, grab, digits}
 use Rattle.rows.specs.Bytes.{Bytes}
@@ -37,8 +37,8 @@ abbrev pub Runs : List Read → List ℕ → Face → Seen → Record → Type 0
 Runs [] xs f s t = made f s ≡ t
 Runs (num (disp zero) ∷ rs) xs f s t = Runs rs xs f s t
 Runs (num (disp (suc n)) ∷ rs) xs f s t = Off (suc n) xs (λ v rest. Runs rs rest f (withDisp (suc n) v s) t)
-Runs (num (imm n) ∷ rs) xs f s t = Off n xs (λ v rest. Runs rs rest f (withImm n (v % 256 ^ n) s) t)
-Runs (num imm20 ∷ rs) xs f s t = Off 3 xs (λ v rest. Runs rs rest f (withImm 3 (v % twentyBits) s) t)
+Runs (num (imm n) ∷ rs) xs f s t = Off n xs (λ v rest. Runs rs rest f (inFull n v s) t)
+Runs (num imm20 ∷ rs) xs f s t = Off 3 xs (λ v rest. Runs rs rest f (inTwenty v s) t)
 Runs (cond ∷ rs) xs f s t = Off 1 xs (λ v rest. (o : Opcode) × (condOf v ≡ named o) × Runs rs rest (renamed o f) (past s) t)
 Runs (stop e ∷ rs) xs f s t = ⊥
 
@@ -88,7 +88,7 @@ own InvalidOpcode z = omega arith
 own InvalidOperand z = omega arith
 
 pub from-run : (rs : List Read) (bs : List ℕ) (f : Face) (s : Seen) (x : Answer) → Bytes bs → run rs bs f s ≡ x → x .refusal ≡ 0 → Runs rs (drop (s .taken) bs) f s (x .inst)
-unfolding run readDisp readImm
+unfolding run readDisp readInto
 from-run [] bs f s x h e z = ap (λ y. y .inst) e
 from-run (num (disp zero) ∷ rs) bs f s x h e z = from-run rs bs f s x h e z
 from-run (num (disp (suc n)) ∷ rs) bs f s x h e z =
@@ -108,7 +108,7 @@ from-run (cond ∷ rs) bs f s x h e z =
 from-run (stop r ∷ rs) bs f s x h e z = absurd (own r (ap (λ y. y .refusal) e ∙ z))
 
 pub to-run : (rs : List Read) (xs bs : List ℕ) (f : Face) (s : Seen) (t : Record) → s .taken ≤ length bs → drop (s .taken) bs ≡ xs → Runs rs xs f s t → run rs bs f s ≡ good t
-unfolding run readDisp readImm
+unfolding run readDisp readInto
 to-run [] xs bs f s t l d q = ap good q
 to-run (num (disp zero) ∷ rs) xs bs f s t l d q = to-run rs xs bs f s t l d q
 to-run (num (disp (suc n)) ∷ rs) xs bs f s t l d (v, rest, e, h, q) =

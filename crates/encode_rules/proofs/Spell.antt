@@ -1,18 +1,19 @@
--- Of all bytes that plain reads turn into a record, `spell`'s are as long and nowhere above; and they are read as that record too.
+-- Of all bytes that plain reads turn into a record, `spell`'s are as long and nowhere above; and they are read as that record too, with nothing dropped.
 -- Assumes nothing.
-use Prim.Native.Nat.{ℕ, zero, suc, _%_, _^_, _≤_}
-use mathlib.Core.Path.{_≡_, refl, sym, ap, _∙_, subst}
-use mathlib.Core.Bool.{true}
+use Prim.Native.Nat.{ℕ, zero, suc, _%_, _≤_, _<_}
+use mathlib.Core.Path.{_≡_, refl, sym, ap, ap₂, _∙_, subst}
+use mathlib.Core.Bool.{true, false}
 use mathlib.Core.List.{List, [], _∷_, _++_, append-assoc}
 use native.Mathlib.Omega.{arith}
 use native.Mathlib.Nat.{le-refl, mod-eq-of-lt}
-use borrow.Author.Tests.{leb-true, eqb-true}
+use borrow.Author.Tests.{leb-true, lt-leb, eqb-true}
 use Rattle.record.specs.declared.Record.{Record}
 use Rattle.record.specs.declared.Operand.the-variants.{Nothing}
 use Rattle.record.specs.declared.Seen.{Seen}
+use Rattle.record.proofs.Same.{dropping}
 use Rattle.rows.specs.Row.{disp, imm, imm20, Read, num, cond, stop, Face}
 use Rattle.rows.specs.Fate.{fate}
-use Rattle.rows.specs.Run.{withDisp, withImm, twentyBits, past, renamed}
+use Rattle.rows.specs.Run.{withDisp, withImm, inFull, twentyBits, past, renamed}
 use Rattle.encode_rules.specs.steps.Digits.{digits}
 use Rattle.encode_rules.specs.steps.Search.{condByte, disps, imms, conds, nth, spell, tidy}
 use Rattle.encode_rules.proofs.Bools.{both-true}
@@ -95,10 +96,14 @@ nth-is zero v t l p q = p refl
 nth-is (suc zero) v t l p q = q refl
 nth-is (suc (suc d)) v t l p q = absurd (omega arith)
 
+-- numbers of which nothing was dropped
+abbrev spared : Seen → Seen
+spared s = record { «imm_wide» = s .«imm_wide»; dispabs = s .dispabs; first = s .first; dropped = false; taken = s .taken }
+
 pub record Least (rs : List Read) (xs : List ℕ) (f : Face) (s : Seen) (t : Record) : Type 0 where
   pub more : List ℕ
   pub below : Below (spell rs t ++ more) xs
-  pub again : Runs rs (spell rs t) f s t
+  pub again : Runs rs (spell rs t) f (spared s) (dropping false t)
 
 -- one read: u's bytes stand for those that were read as v
 one : (n u v : ℕ) (xs rest ys more : List ℕ) → xs ≡ digits n v ++ rest → u ≡ v → Below (ys ++ more) rest → Below ((digits n u ++ ys) ++ more) xs
@@ -109,7 +114,7 @@ masked u v xs rest ys more e w b = rw e (omega arith, (omega arith, (omega arith
 
 pub least : (rs : List Read) (xs : List ℕ) (f : Face) (s : Seen) (t : Record) → tidy rs ≡ true → Runs rs xs f s t → Least rs xs f s t
 unfolding spell tidy
-least [] xs f s t c q = record { more = xs; below = below-refl xs; again = q }
+least [] xs f s t c q = record { more = xs; below = below-refl xs; again = ap (dropping false) q }
 least (num (disp zero) ∷ rs) xs f s t c q =
     let k = least rs xs f s t c q in
     record { more = k .more; below = k .below; again = k .again }
@@ -127,18 +132,20 @@ least (num (imm n) ∷ rs) xs f s t c (v, rest, e, h, q) =
     record {
       more = k .more;
       below = one n _ v xs rest (spell rs t) (k .more) e u (k .below);
-      again = (t .«imm_wide», spell rs t, refl, rw u h, subst (λ m. Runs rs (spell rs t) f (withImm n (m % 256 ^ n) s) t) (sym u) (k .again));
+      again = (t .«imm_wide», spell rs t, refl, rw u h, subst (λ m. Runs rs (spell rs t) f (inFull n m (spared s)) (dropping false t)) (sym u) (k .again));
     }
 least (num imm20 ∷ rs) xs f s t c (v, rest, e, h, q) =
     let b = both-true _ _ c in
     let k = least rs rest f _ t (b .1) q in
     let g = kept rs rest f _ t q in
     let u : t .«imm_wide» ≡ v % twentyBits = g .number (eqb-true _ _ (b .0)) in
-    let w : t .«imm_wide» % twentyBits ≡ v % twentyBits = omega arith in
+    let l : t .«imm_wide» < twentyBits = omega arith in
+    let w : v % twentyBits ≡ t .«imm_wide» % twentyBits = omega arith in
+    let zero-above = ap₂ (λ m d. withImm 3 m d (spared s)) w (sym (lt-leb twentyBits (t .«imm_wide») l)) in
     record {
       more = k .more;
       below = masked _ v xs rest (spell rs t) (k .more) e u (k .below);
-      again = (t .«imm_wide», spell rs t, refl, omega arith, subst (λ m. Runs rs (spell rs t) f (withImm 3 m s) t) (sym w) (k .again));
+      again = (t .«imm_wide», spell rs t, refl, omega arith, subst (λ x. Runs rs (spell rs t) f x (dropping false t)) zero-above (k .again));
     }
 least (cond ∷ rs) xs f s t c (v, rest, e, h, (o, g, q)) =
     let b = both-true _ _ c in

@@ -1,7 +1,7 @@
--- Document 01, "Bench lines": the lines marked P, as one table.
+-- Document 01, "Bench lines": the lines marked P, and what request A6 says of encoding, as one table.
 use Prim.Native.Nat.{ℕ}
 use mathlib.Core.Path.{_≡_}
-use mathlib.Core.Bool.{true, false}
+use mathlib.Core.Bool.{Bool, true, false}
 use mathlib.Core.List.{List, [], _∷_}
 use Rattle.record.specs.declared.Answer.{Answer}
 use Rattle.record.specs.declared.Opcode.the-variants.{STE, ROT, MUL, BMGE, LDIPL}
@@ -18,27 +18,28 @@ pub data Line : Type 0 where
   decodes : List ℕ → Answer → Line
   encodes : List ℕ → List ℕ → Line
 
-abbrev pub numbers : ℕ → ℕ → ℕ → ℕ → Seen
-numbers wide short first taken = record { «imm_wide» = wide; dispabs = short; first = first; taken = taken }
+abbrev pub numbers : ℕ → ℕ → ℕ → Bool → ℕ → Seen
+numbers wide short first dropped taken = record { «imm_wide» = wide; dispabs = short; first = first; dropped = dropped; taken = taken }
 
 abbrev pub lines : List Line
 lines =
     decodes [] (refusal 1 0)
     ∷ decodes (0x04 ∷ []) (refusal 4 1)
-    ∷ decodes (0x74 ∷ 0x0F ∷ 0x34 ∷ 0x12 ∷ 0x89 ∷ 0x67 ∷ 0xF5 ∷ []) (accepted STE size.None B Abs16 Abs20 false (numbers 0x56789 0x1234 0 7))
+    ∷ decodes (0x74 ∷ 0x0F ∷ 0x34 ∷ 0x12 ∷ 0x89 ∷ 0x67 ∷ 0xF5 ∷ []) (accepted STE size.None B Abs16 Abs20 false (numbers 0x56789 0x1234 0 true 7))
     ∷ decodes (0x74 ∷ 0x0F ∷ 0x34 ∷ 0x12 ∷ 0x89 ∷ 0x67 ∷ []) (refusal 1 6)
     ∷ decodes (0x74 ∷ 0x63 ∷ []) (refusal 3 2)
-    ∷ decodes (0x75 ∷ 0x63 ∷ []) (accepted ROT size.W W R1H R3 false (numbers 0 0 0 2))
+    ∷ decodes (0x75 ∷ 0x63 ∷ []) (accepted ROT size.W W R1H R3 false (numbers 0 0 0 false 2))
     ∷ decodes (0x78 ∷ 0x83 ∷ []) (refusal 1 2)
     ∷ decodes (0x78 ∷ 0x83 ∷ 0x10 ∷ []) (refusal 3 3)
     ∷ decodes (0x7B ∷ 0x88 ∷ []) (refusal 3 2)
     ∷ decodes (0x7A ∷ 0x88 ∷ []) (refusal 1 2)
-    ∷ decodes (0x78 ∷ 0x89 ∷ 0x10 ∷ 0x20 ∷ []) (accepted MUL size.None B «Disp8_A0» «Disp8_A1» false (numbers 0 0x20 0x10 4))
+    ∷ decodes (0x78 ∷ 0x89 ∷ 0x10 ∷ 0x20 ∷ []) (accepted MUL size.None B «Disp8_A0» «Disp8_A1» false (numbers 0 0x20 0x10 false 4))
     ∷ decodes (0x7E ∷ 0x20 ∷ 0x05 ∷ 0x07 ∷ []) (refusal 2 4)
-    ∷ decodes (0x7E ∷ 0x20 ∷ 0x05 ∷ 0x06 ∷ []) (accepted BMGE size.None None «Bit_R0» Nothing false (numbers 0 5 0 4))
-    ∷ decodes (0x7D ∷ 0xA5 ∷ []) (accepted LDIPL size.None W Imm8 Nothing true (numbers 0xFFFFFFFD 0 0 2))
+    ∷ decodes (0x7E ∷ 0x20 ∷ 0x05 ∷ 0x06 ∷ []) (accepted BMGE size.None None «Bit_R0» Nothing false (numbers 0 5 0 false 4))
+    ∷ decodes (0x7D ∷ 0xA5 ∷ []) (accepted LDIPL size.None W Imm8 Nothing true (numbers 0xFFFFFFFD 0 0 false 2))
     ∷ encodes (0x74 ∷ 0x5C ∷ 0x00 ∷ 0x00 ∷ []) (0x74 ∷ 0x56 ∷ [])
     ∷ encodes (0xEB ∷ 0x0C ∷ 0x00 ∷ 0x00 ∷ []) (0xEB ∷ 0x08 ∷ 0x00 ∷ [])
+    ∷ encodes (0x74 ∷ 0x00 ∷ 0x61 ∷ 0xFE ∷ 0x16 ∷ []) (0x74 ∷ 0x00 ∷ 0x61 ∷ 0xFE ∷ 0x06 ∷ [])  -- request A6
     ∷ []
 
 abbrev pub Holds : Line → Type 0

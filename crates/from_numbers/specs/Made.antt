@@ -25,7 +25,7 @@ valid ns =
     (both (below ns 6 (length operands))
     (both (below ns 8 65536) (below ns 9 65536))))))))
 
--- taken, length and marked, numbers 0, 10 and 11, do not count
+-- taken, length and marked, numbers 0, 10 and 11, do not count, nor what stands behind them
 abbrev pub madeOf : List ℕ → Record
 madeOf ns = record {
   «imm_wide» = getD ns 7 0;
@@ -39,6 +39,7 @@ madeOf ns = record {
   op1 = operandAt (getD ns 5 0);
   op2 = operandAt (getD ns 6 0);
   marked = false;
+  dropped = false;
 }
 
 -- numbers that make no record make the blank one, which has no operand and which no bytes encode; those behind the twelfth do not count

@@ -1,4 +1,4 @@
-// A record from the twelve numbers that a program passes in, in the order that m16c_decode fills.
+// A record from the first twelve numbers that a program passes in, in the order that m16c_decode fills.
 ghost use mathlib.Core.Path.{_≡_};
 ghost use Prim.Native.Nat.{_≤_, _<_};
 ghost use lib.ListN.{length, getD};
@@ -56,6 +56,7 @@ fn made_of(numbers: &[u32]) -> Record
         op1: names::operand_at(numbers[5]),
         op2: names::operand_at(numbers[6]),
         marked: false,
+        dropped: false,
     }
 }
 

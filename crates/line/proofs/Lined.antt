@@ -2,6 +2,7 @@
 -- Assumes nothing.
 use Prim.Native.Nat.{ℕ, _≤_}
 use mathlib.Core.Path.{_≡_, sym, ap, _∙_}
+use mathlib.Core.Bool.{Bool, true, false}
 use mathlib.Core.List.{List, [], _∷_, _++_, map, append-assoc, append-nil}
 use lib.Dec.{T}
 use native.Mathlib.Omega.{arith}
@@ -15,7 +16,7 @@ use Rattle.record.specs.declared.Width.the-variants as width
 use Rattle.record.specs.declared.Operand.{Operand}
 use Rattle.record.specs.Signed.{isSigned, numberAt}
 use Rattle.line.specs.Characters.{spelled}
-use Rattle.line.specs.Line.{widthText, opcodeText, sizeText, shown, digitsOf, numberText, operandText, fromWidth, lineOf, endText, refusedText}
+use Rattle.line.specs.Line.{widthText, opcodeText, sizeText, shown, digitsOf, numberText, operandText, droppedText, fromWidth, lineOf, endText, refusedText}
 use Rattle.line.specs.steps.Packed.{pack, text, firstEight, afterEight, placeText, lengthText, parts, endParts, refusedParts}
 use Rattle.line.proofs.Unpacked.{wordy, wordy-hex, wordy-digits, wordy-equals, joined, Wordy, done, _also_, text-of, text-short}
 use Rattle.line.proofs.Spelling.{opcode-wordy, first-wordy, after-wordy, digits-few}
@@ -35,12 +36,17 @@ number-wordy : (a : Operand) (n : ℤ) → T (wordy 8 (numberText a n))
 unfolding numberText
 number-wordy a n = wordy-equals (digitsOf a) (natAbs n) (isSigned a) n (digits-few a)
 
+dropped-wordy : (b : Bool) → T (wordy 8 (droppedText b))
+dropped-wordy true = tt
+dropped-wordy false = tt
+
 parts-wordy : (r : Record) → Wordy (parts r)
 parts-wordy r =
     width-wordy (r .width) also opcode-wordy (r .opcode) also size-wordy (r .size)
     also first-wordy (r .op0) also after-wordy (r .op0) also number-wordy (r .op0) (numberAt r 0 .value)
     also first-wordy (r .op1) also after-wordy (r .op1) also number-wordy (r .op1) (numberAt r 1 .value)
-    also first-wordy (r .op2) also after-wordy (r .op2) also number-wordy (r .op2) (numberAt r 2 .value) also done
+    also first-wordy (r .op2) also after-wordy (r .op2) also number-wordy (r .op2) (numberAt r 2 .value)
+    also dropped-wordy (r .dropped) also done
 
 -- a name's two words, and the number behind them
 operand-joined : (a : Operand) (n : ℤ) (xs : List ℕ) → firstEight (shown a) ++ (afterEight (shown a) ++ (numberText a n ++ xs)) ≡ operandText a n ++ xs
@@ -54,7 +60,7 @@ parts-joined r =
     ap (λ s. widthText (r .width) ++ (opcodeText (r .opcode) ++ (sizeText (r .size) ++ s)))
     (operand-joined (r .op0) (numberAt r 0 .value) _ ∙ ap (λ s. operandText (r .op0) (numberAt r 0 .value) ++ s)
     (operand-joined (r .op1) (numberAt r 1 .value) _ ∙ ap (λ s. operandText (r .op1) (numberAt r 1 .value) ++ s)
-    (operand-joined (r .op2) (numberAt r 2 .value) [] ∙ append-nil (operandText (r .op2) (numberAt r 2 .value)))))
+    (operand-joined (r .op2) (numberAt r 2 .value) _ ∙ ap (λ s. operandText (r .op2) (numberAt r 2 .value) ++ s) (append-nil (droppedText (r .dropped))))))
 
 pub from-width : (r : Record) → text (0 ∷ 0 ∷ map pack (parts r)) ≡ fromWidth r
 from-width r = text-of {xss = [] ∷ [] ∷ parts r} (tt also tt also parts-wordy r) ∙ parts-joined r
@@ -72,6 +78,6 @@ pub refusing : (place refusal taken : ℕ) → text (map pack (refusedParts plac
 refusing place refusal taken =
     text-of {xss = refusedParts place refusal taken} (wordy-digits 4 4 place also tt also wordy-digits 1 6 refusal also tt also wordy-digits 1 7 taken also done)
 
--- fourteen words, so at most 112 characters
-pub line-short : (place : ℕ) (r : Record) → length (lineOf place r) ≤ 112
+-- fifteen words, so at most 120 characters
+pub line-short : (place : ℕ) (r : Record) → length (lineOf place r) ≤ 120
 line-short place r = omega (arith, ap length (whole place r), text-short (pack (placeText place) ∷ pack (lengthText (r .length)) ∷ map pack (parts r)))

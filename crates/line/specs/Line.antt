@@ -1,5 +1,6 @@
 -- Document 01, "Bench lines": the lines of a listing, without the newline.
 use Prim.Native.Nat.{ℕ, zero, suc}
+use mathlib.Core.Bool.{Bool, true, false}
 use mathlib.Core.List.{List, [], _∷_, _++_}
 use lib.IntN.{ℤ, pos, negsuc, natAbs}
 use Rattle.laws.specs.Choice.{pick}
@@ -72,11 +73,17 @@ shown a = pick (sameName a Nothing) [] (spelled " " ++ operandName a)
 abbrev pub operandText : Operand → ℤ → List ℕ
 operandText a n = shown a ++ numberText a n
 
+-- request A6: a line ends in a space and `!` where bits were dropped
+abbrev pub droppedText : Bool → List ℕ
+droppedText true = spelled " !"
+droppedText false = []
+
 -- from the width on; whose number is whose is sameness's rule
 unfoldable pub fromWidth : Record → List ℕ
 fromWidth r =
     widthText (r .width) ++ (opcodeText (r .opcode) ++ (sizeText (r .size)
-    ++ (operandText (r .op0) (numberAt r 0 .value) ++ (operandText (r .op1) (numberAt r 1 .value) ++ operandText (r .op2) (numberAt r 2 .value)))))
+    ++ (operandText (r .op0) (numberAt r 0 .value) ++ (operandText (r .op1) (numberAt r 1 .value) ++ (operandText (r .op2) (numberAt r 2 .value)
+    ++ droppedText (r .dropped))))))
 
 -- the place in four digits, the length in one (of a larger place or length its low digits), and the rest
 unfoldable pub lineOf : ℕ → Record → List ℕ

@@ -5,7 +5,7 @@ ghost use Prim.Native.Nat.{_<_, _≤_};
 ghost use lib.IntN.{natAbs};
 ghost use Rattle.record.specs.Signed.{numberOf};
 ghost use Rattle.line.specs.Characters.{digit, hex};
-ghost use Rattle.line.specs.Line.{widthText, sizeText, digitsOf, signText, numberText};
+ghost use Rattle.line.specs.Line.{widthText, sizeText, digitsOf, signText, numberText, droppedText};
 ghost use Rattle.line.specs.steps.Packed.{pack, placeText, lengthText, parts, endParts, refusedParts};
 use crate::names;
 use record::Operand;
@@ -134,8 +134,14 @@ fn number_word(x: Operand, v: u32) -> u64
     0x3D + 0x100 * digits(count, v as u64)
 }
 
+fn dropped_word(x: bool) -> u64
+    ensures { λ w. ⌜ w ≡ pack (droppedText x) ⌝ }
+{
+    if x { 0x2120 } else { 0 }
+}
+
 // The words of a line, behind two that are given.
-pub fn words_of(first: u64, second: u64, r: Record) -> [u64; 14]
+pub fn words_of(first: u64, second: u64, r: Record) -> [u64; 15]
     ensures { λ w. ⌜ w ≡ first ∷ second ∷ map pack (parts r) ⌝ }
 {
     let op0 = r.op0;
@@ -163,6 +169,7 @@ pub fn words_of(first: u64, second: u64, r: Record) -> [u64; 14]
         c.0,
         c.1,
         number_word(op2, numbers.number2),
+        dropped_word(r.dropped),
     ]
 }
 

@@ -19,7 +19,7 @@ use Rattle.line.specs.Left.{left, Writes}
 use Rattle.line.proofs.Lined.{line-short}
 use Rattle.listing.specs.Listing.{stepText, lineAt, textOf, listed}
 
-text-short : (p : ℕ) (s : Step) → length (stepText p s) ≤ 112
+text-short : (p : ℕ) (s : Step) → length (stepText p s) ≤ 120
 text-short p End = omega arith
 text-short p (Accepted r t) = line-short p r
 text-short p (Refused e t) = omega arith
@@ -28,7 +28,7 @@ module _ (p : ℕ) (s : Step) where
   pub line-longer : length (lineAt p s) ≡ length (stepText p s) + 1
   line-longer = length-append (stepText p s) (10 ∷ [])
 
-  pub line-room : length (lineAt p s) ≤ 113
+  pub line-room : length (lineAt p s) ≤ 121
   line-room = omega (arith, line-longer, text-short p s)
 
 -- a text that has room over the first bytes of a buffer, and the newline behind it

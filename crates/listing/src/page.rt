@@ -12,7 +12,7 @@ use sweep::step;
 use sweep::step::Step;
 
 // No line is longer, its newline included.
-const ROOM: usize = 113;
+const ROOM: usize = 121;
 
 // What is still to be listed: that the image is too long, the lines from a place on, or nothing.
 pub enum Next {
@@ -60,7 +60,7 @@ fn write_step(place: usize, here: Step, out: &mut [u8]) -> Written
 
 // The same with its newline.
 fn put_line(place: usize, here: Step, out: &mut [u8]) -> usize
-    requires { ⌜ 113 ≤ length (now out) ⌝ }
+    requires { ⌜ 121 ≤ length (now out) ⌝ }
     ensures { λ n. ⌜ (n ≡ length (lineAt place here)) × (now (out .exit) ≡ over (lineAt place here) (now (out .entry))) ⌝ }
 {
     let w = write_step(place, here, out);

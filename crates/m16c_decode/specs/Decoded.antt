@@ -14,7 +14,7 @@ abbrev pub flagNo : Bool → ℕ
 flagNo true = 1
 flagNo false = 0
 
--- an answer as twelve numbers
+-- an answer as numbers
 unfoldable pub numbersOf : Answer → List ℕ
 numbersOf x =
     x .taken
@@ -29,18 +29,23 @@ numbersOf x =
     ∷ x .inst .first
     ∷ x .inst .length
     ∷ flagNo (x .inst .marked)
+    ∷ flagNo (x .inst .dropped)
     ∷ []
+
+-- so many
+abbrev pub entries : ℕ
+entries = 13
 
 -- the number returned, and the list as it is left
 pub record Delivered : Type 0 where
   pub no : ℕ
   pub out : List ℕ
 
--- 6 and nothing touched where the list has fewer than twelve entries; else the twelve numbers stand over its first twelve
+-- 6 and nothing touched where the list has fewer entries; else the numbers stand over its first ones
 unfoldable pub decoded : List ℕ → ℕ → List ℕ → Delivered
 decoded image at out =
-    pick (ltb (length out) 12) (record { no = 6; out = out })
-    (record { no = decodeRows (drop at image) .refusal; out = numbersOf (decodeRows (drop at image)) ++ drop 12 out })
+    pick (ltb (length out) entries) (record { no = 6; out = out })
+    (record { no = decodeRows (drop at image) .refusal; out = numbersOf (decodeRows (drop at image)) ++ drop entries out })
 
 -- the promise: the number returned, and every entry of the list as it is left
 pub record Decodes (image : List ℕ) (at : ℕ) (out : List ℕ) (r : ℕ) (after : List ℕ) : Type 0 where

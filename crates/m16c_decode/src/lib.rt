@@ -3,7 +3,7 @@ ghost use mathlib.Core.Path.{_≡_};
 ghost use mathlib.Core.List.{_++_};
 ghost use Prim.Native.Nat.{_≤_};
 ghost use lib.ListN.{length, drop};
-ghost use Rattle.m16c_decode.specs.Decoded.{flagNo, numbersOf, Decodes};
+ghost use Rattle.m16c_decode.specs.Decoded.{flagNo, numbersOf, entries, Decodes};
 use record::Answer;
 use record::numbers;
 use record::refusal;
@@ -14,10 +14,13 @@ fn flag_number(x: bool) -> u32
     if x { 1 } else { 0 }
 }
 
-// An answer's twelve numbers over the first twelve entries.
+// So many numbers are an answer.
+const ENTRIES: usize = 13;
+
+// An answer's numbers over the first entries.
 fn deliver(a: Answer, out: &mut [u32])
-    requires { ⌜ (12 ≤ length (now out)) × (a .taken ≤ 7) × (a .inst .length ≤ 7) ⌝ }
-    ensures { λ r. ⌜ now (out .exit) ≡ numbersOf a ++ drop 12 (now (out .entry)) ⌝ }
+    requires { ⌜ (entries ≤ length (now out)) × (a .taken ≤ 7) × (a .inst .length ≤ 7) ⌝ }
+    ensures { λ r. ⌜ now (out .exit) ≡ numbersOf a ++ drop entries (now (out .entry)) ⌝ }
 {
     let inst = a.inst;
     let opcode = inst.opcode;
@@ -38,15 +41,16 @@ fn deliver(a: Answer, out: &mut [u32])
     out[9] = inst.first as u32;
     out[10] = inst.length as u32;
     out[11] = flag_number(inst.marked);
+    out[12] = flag_number(inst.dropped);
 }
 
-// Decodes at a place of an image. Returns the refusal, 0 for none, and fills twelve entries: taken, opcode, size, width, three
-// operands, imm_wide, dispabs, first, length, marked. With fewer than twelve entries it returns 6 and touches none.
+// Decodes at a place of an image. Returns the refusal, 0 for none, and fills thirteen entries: taken, opcode, size, width, three
+// operands, imm_wide, dispabs, first, length, marked, dropped. With fewer than thirteen entries it returns 6 and touches none.
 #[no_mangle]
 pub extern "C" fn m16c_decode(image: &[u8], at: usize, out: &mut [u32]) -> u32
     ensures { λ r. ⌜ Decodes (now (image .entry)) at (now (out .entry)) r (now (out .exit)) ⌝ }
 {
-    if out.len() < 12 {
+    if out.len() < ENTRIES {
         return refusal::TOO_LITTLE_ROOM as u32;
     }
     let a = decode::decode(image, at);

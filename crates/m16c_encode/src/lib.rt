@@ -3,8 +3,8 @@ ghost use Rattle.encode_rules.specs.Written.{outcome};
 ghost use Rattle.m16c_encode.specs.Numbers.{EncodesNumbers};
 use record::refusal;
 
-// Encodes the record of twelve numbers, in the order that m16c_decode fills, from a place of a buffer on. Taken, length and marked do
-// not count. Returns 0 and leaves the number of bytes written, or 5 or 6 with 0 and the buffer as it was.
+// Encodes the record of the first twelve numbers that m16c_decode fills, from a place of a buffer on. Taken, length and marked do not
+// count, nor what stands behind. Returns 0 and leaves the number of bytes written, or 5 or 6 with 0 and the buffer as it was.
 #[no_mangle]
 pub extern "C" fn m16c_encode(
     numbers: &[u32],

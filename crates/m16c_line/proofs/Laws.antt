@@ -88,8 +88,8 @@ module _ (image : List ℕ) (at : ℕ) (out : List ℕ) where
       from (inr e) = six-where .0 e .0
 
   -- with room for the longest line: decoding's refusal, so never 6
-  pub roomy : 112 ≤ length out → number ≡ refusal
+  pub roomy : 120 ≤ length out → number ≡ refusal
   roomy h = roomy-by numbered (omega (arith, line-short at (decodeRows (drop at image) .inst)))
 
-  pub never-six : 112 ≤ length out → number ≢ 6
+  pub never-six : 120 ≤ length out → number ≢ 6
   never-six h e = omega (arith, six-where .0 e .1, line-short at (decodeRows (drop at image) .inst))

@@ -36,6 +36,7 @@ pub fn accept(
         op1: op1,
         op2: Operand::Nothing,
         marked: marked,
+        dropped: s.dropped,
     };
     Answer {
         inst: r,
@@ -93,6 +94,7 @@ pub const BEGIN: Seen = Seen {
     imm_wide: 0,
     dispabs: 0,
     first: 0,
+    dropped: false,
     taken: 2,
 };
 
@@ -104,6 +106,7 @@ pub fn begin(number: u32) -> Seen
         imm_wide: number,
         dispabs: 0,
         first: 0,
+        dropped: false,
         taken: 2,
     }
 }

@@ -52,6 +52,7 @@ pub fn disp_byte(bs: &[u8], s: Seen) -> Got
         imm_wide: s.imm_wide,
         dispabs: wide(bs[at]),
         first: s.dispabs,
+        dropped: s.dropped,
         taken: at + 1,
     })
 }
@@ -71,6 +72,7 @@ pub fn disp_word(bs: &[u8], s: Seen) -> Got
         imm_wide: s.imm_wide,
         dispabs: word(bs[at], bs[at + 1]),
         first: s.dispabs,
+        dropped: s.dropped,
         taken: at + 2,
     })
 }
@@ -87,6 +89,7 @@ pub fn imm_byte(bs: &[u8], s: Seen) -> Got
         imm_wide: small(bs[at]),
         dispabs: s.dispabs,
         first: s.first,
+        dropped: false,
         taken: at + 1,
     })
 }
@@ -106,11 +109,12 @@ pub fn imm_word(bs: &[u8], s: Seen) -> Got
         imm_wide: large(bs[at], bs[at + 1]),
         dispabs: s.dispabs,
         first: s.first,
+        dropped: false,
         taken: at + 2,
     })
 }
 
-// L: three bytes into imm_wide, 20 bits of them.
+// L: three bytes into imm_wide, 20 bits of them, and whether the nibble above was not zero.
 pub fn long20(bs: &[u8], s: Seen) -> Got
     ensures { λ r. ⌜ r ≡ reading imm20 (now (bs .entry)) s ⌝ }
 {
@@ -121,10 +125,12 @@ pub fn long20(bs: &[u8], s: Seen) -> Got
     if bs.len() - 3 < at {
         return Got::Short;
     }
+    let third = bs[at + 2];
     Got::On(Seen {
-        imm_wide: three(bs[at], bs[at + 1], bs[at + 2]),
+        imm_wide: three(bs[at], bs[at + 1], third),
         dispabs: s.dispabs,
         first: s.first,
+        dropped: 16 <= third,
         taken: at + 3,
     })
 }

@@ -1,4 +1,4 @@
--- Document 01, "Blank record": NOP, three Nothing, zeros, no width, unmarked.
+-- Document 01, "Blank record": NOP, three Nothing, zeros, no width, unmarked; by request A6 nothing dropped.
 use mathlib.Core.Bool.{false}
 use Rattle.record.specs.declared.Record.{Record}
 use Rattle.record.specs.declared.Opcode.the-variants.{NOP}
@@ -19,4 +19,5 @@ blank = record {
   op1 = Nothing;
   op2 = Nothing;
   marked = false;
+  dropped = false;
 }

@@ -198,6 +198,8 @@ pub struct Record {
     pub op2: Operand,
     // The row reads this code otherwise than the maker's manual, or document 01 stars it.
     pub marked: bool,
+    // A 20-bit number was read from three bytes of which the upper nibble, which is not kept, was not zero.
+    pub dropped: bool,
 }
 
 // What a refusal returns for a record.
@@ -213,6 +215,7 @@ pub const BLANK: Record = Record {
     op1: Operand::Nothing,
     op2: Operand::Nothing,
     marked: false,
+    dropped: false,
 };
 
 // All that counts of a record: two records are the same instruction if these agree.
@@ -235,11 +238,12 @@ pub struct Answer {
     pub refusal: u8,
 }
 
-// What a row's reads pass on from one to the next: the numbers read so far, and the bytes taken.
+// What a row's reads pass on from one to the next: the numbers read so far, whether imm_wide lost bits, and the bytes taken.
 pub struct Seen {
     pub imm_wide: u32,
     pub dispabs: u16,
     pub first: u16,
+    pub dropped: bool,
     pub taken: usize,
 }
 

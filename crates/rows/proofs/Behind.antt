@@ -1,6 +1,6 @@
 -- No byte behind those taken counts, for any row table: an answer other than refusal 1 is the answer to whatever begins with the bytes it took.
 -- Assumes nothing.
-use Prim.Native.Nat.{ℕ, zero, suc, _+_, _*_, _^_, _%_, _≤_, _<_}
+use Prim.Native.Nat.{ℕ, zero, suc, _+_, _*_, _≤_, _<_}
 use mathlib.Core.Path.{_≡_, refl, ap, _∙_, subst}
 use mathlib.Core.Bool.{Bool, true, false}
 use mathlib.Core.List.{List, [], _∷_}
@@ -15,7 +15,7 @@ use Rattle.record.specs.declared.Got.the-variants.{On, Short}
 use Rattle.rows.specs.Row.{Num, disp, imm, imm20, Read, num, cond, stop, Condition, named, unnamed, Face, Table}
 use Rattle.rows.specs.Codes.{condOf}
 use Rattle.rows.specs.Fate.{bytesOf}
-use Rattle.rows.specs.Run.{bytes, reading, readDisp, readImm, twentyBits, withDisp, withImm, andThen, past, renamed, refusal, run, runRow, begun, decodeBy}
+use Rattle.rows.specs.Run.{bytes, reading, readDisp, readInto, withDisp, inFull, inTwenty, andThen, past, renamed, refusal, run, runRow, begun, decodeBy}
 use Rattle.rows.proofs.Taken.{Went, reading-went, run-counted, row-counted}
 
 -- cs begins with the first k bytes of bs
@@ -47,14 +47,14 @@ module _ (k : ℕ) (bs cs : List ℕ) (h : Begins k bs cs) where
       by false f = let g : Short ≡ On t = rw f at e in let z : _≡_ {A = ℕ} 0 1 = cc in absurd (omega arith)
 
   reading-alike : (j : Num) (s t : Seen) → t .taken ≤ k → reading j bs s ≡ On t → reading j cs s ≡ On t
-  unfolding readDisp readImm
+  unfolding readDisp readInto
   reading-alike (disp n) s t l e = by (eqb n 0) refl
     where
       by : (b : Bool) → eqb n 0 ≡ b → readDisp n cs s ≡ On t
       by true f = rw f (rw f at e)
       by false f = rw f (read-alike n s t (λ v. withDisp n v s) (λ v. refl) l (rw f at e))
-  reading-alike (imm n) s t l e = read-alike n s t (λ v. withImm n (v % 256 ^ n) s) (λ v. refl) l e
-  reading-alike imm20 s t l e = read-alike 3 s t (λ v. withImm 3 (v % twentyBits) s) (λ v. refl) l e
+  reading-alike (imm n) s t l e = read-alike n s t (λ v. inFull n v s) (λ v. refl) l e
+  reading-alike imm20 s t l e = read-alike 3 s t (λ v. inTwenty v s) (λ v. refl) l e
 
   -- the rest of a row, whose answer is not refusal 1
   abbrev Alike : List Read → Type 0

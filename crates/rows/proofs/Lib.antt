@@ -11,3 +11,4 @@ pub mod Agree
 pub mod Bytes
 pub mod Spans
 pub mod Manual
+pub mod Dropped

@@ -1,6 +1,6 @@
 -- Decoding and the manual: what an unmarked code that has a meaning decodes to is the manual's instruction, whatever bytes follow.
 -- Assumes nothing.
-use Prim.Native.Nat.{ℕ, _-_, _%_, _^_, _<_}
+use Prim.Native.Nat.{ℕ, _-_, _%_, _<_}
 use mathlib.Core.Path.{_≡_, refl, sym, ap, ap₂, subst, _∙_}
 use mathlib.Core.Bool.{Bool, true, false, not}
 use mathlib.Core.List.{List, _∷_}
@@ -28,7 +28,7 @@ use Rattle.rows.specs.Codes.{condOf}
 use Rattle.rows.specs.Rows.{known, rowsOf, document01}
 use Rattle.rows.specs.Run.{decodeRows}
 use Rattle.rows.specs.All.{everyCode}
-use Rattle.rows.specs.Spans.{Span, Source, code, read, Naming, byRow, byByte, Spans, spansOf, numberIn, wideIn, namedIn, MadeBy}
+use Rattle.rows.specs.Spans.{Span, Source, code, read, twenty, Naming, byRow, byByte, Spans, spansOf, numberIn, wideIn, namedIn, MadeBy}
 use Rattle.rows.specs.Agree.{numberAt, Shows, inCode, recorded, conditional, mnemonicIn, sizeFits, AsManual}
 use Rattle.rows.specs.steps.Meant.{spot, spotWide, meaningOf}
 use Rattle.rows.proofs.All.{every-code}
@@ -37,15 +37,13 @@ use Rattle.rows.proofs.Bytes.{at-bytes, bytes-small}
 use Rattle.rows.proofs.Spans.{accepted}
 
 -- what document 01's spans are: three bytes are read into imm_wide alone, and kept to 20 bits; other numbers are kept whole
-bound : ℕ → ℕ
-bound n = pick (eqb n 3) 0x100000 (256 ^ n)
+plainSpan : Span → Bool
+plainSpan s = not (eqb (s .count) 3)
 
 plainSource : Source → Bool
 plainSource code = true
-plainSource (read s b) = eqb b (bound (s .count))
-
-plainSpan : Span → Bool
-plainSpan s = not (eqb (s .count) 3)
+plainSource (read s) = plainSpan s
+plainSource (twenty p) = true
 
 -- a condition byte is the last, and only where the manual has BMcnd
 plainNaming : Naming → Entry → Bool
@@ -60,7 +58,7 @@ plainAt : ℕ → ℕ → Bool
 plainAt a b = plainSpans (spansOf (document01 .rowAt a b)) (entryAt a b)
 
 all-plain : T (everyCode plainAt)
-unfolding everyCode plainAt plainSpans plainSource plainSpan plainNaming bound spansOf rowsOf entryAt
+unfolding everyCode plainAt plainSpans plainSource plainSpan plainNaming spansOf rowsOf entryAt
 all-plain = tt
 
 record Plain (z : Spans) (e : Entry) : Type 0 where
@@ -94,20 +92,13 @@ unmasked bs s = by (eqb (s .count) 3)
     by true t = absurd t
     by false t = refl
 
-masked : (bs : List ℕ) → Bytes bs → (s : Span) → numberIn bs s % bound (s .count) ≡ numberAt bs (s .from) (s .count)
-unfolding bound
-masked bs h s = by (eqb (s .count) 3)
-  where
-    by : (e : Bool) → numberIn bs s % pick e 0x100000 (256 ^ s .count) ≡ pick e (numberIn bs s % 0x100000) (numberIn bs s)
-    by true = refl
-    by false = mod-eq-of-lt (bytes-small (s .count) (s .from) bs h)
-
 -- what a row made of bytes, and what the row's spots show
 module _ (w : Row) (bs : List ℕ) (h : Bytes bs) (r : Record) (made : MadeBy w bs r) (e : Entry) (plainly : Plain (spansOf w) e) where
   wide-shows : (a : Operand) (q : Source) → T (plainSource q) → r .«imm_wide» ≡ wideIn bs (w .number) q → Shows bs (spotWide a (w .number) q) a (r .«imm_wide»)
   unfolding plainSource
   wide-shows a code t k = (refl, ap (inCode a) k)
-  wide-shows a (read s b) t k = (refl, k ∙ ap (λ x. numberIn bs s % x) (eqb→eq b (bound (s .count)) t) ∙ masked bs h s)
+  wide-shows a (read s) t k = (refl, k ∙ mod-eq-of-lt (bytes-small (s .count) (s .from) bs h) ∙ unmasked bs s t)
+  wide-shows a (twenty p) t k = (refl, k)
 
   shows : (a : Operand) (x : Field) → Shows bs (spot a x w) a (valueOf x r)
   unfolding spot sameName

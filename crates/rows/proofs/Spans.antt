@@ -15,8 +15,8 @@ use Rattle.record.specs.declared.Got.the-variants.{On, Short}
 use Rattle.rows.specs.Row.{disp, imm, imm20, InvalidOpcode, InvalidOperand, Read, num, cond, stop, Condition, named, unnamed, Face, Row, Table}
 use Rattle.rows.specs.Codes.{condOf}
 use Rattle.rows.specs.Fate.{fate}
-use Rattle.rows.specs.Run.{bytes, twentyBits, readDisp, readImm, withDisp, withImm, andThen, judged, past, renamed, refusal, run, runRow, begun, decodeBy}
-use Rattle.rows.specs.Spans.{Spans, follow, spansOf, dispNext, immNext, condNext, numberIn, wideIn, namedIn, Made, MadeBy}
+use Rattle.rows.specs.Run.{bytes, twentyBits, readDisp, readInto, withDisp, withImm, andThen, judged, past, renamed, refusal, run, runRow, begun, decodeBy}
+use Rattle.rows.specs.Spans.{span, Source, read, twenty, Spans, follow, spansOf, dispNext, immNext, condNext, numberIn, wideIn, droppedIn, namedIn, Made, MadeBy}
 
 -- the numbers read so far stand at the spans so far; the last naming is the opcode's
 module _ (bs : List ℕ) (number : ℕ) (o : Opcode) where
@@ -26,6 +26,7 @@ module _ (bs : List ℕ) (number : ℕ) (o : Opcode) where
     short : s .dispabs ≡ numberIn bs (z .short)
     early : s .first ≡ numberIn bs (z .early)
     opcode : namedIn bs o (z .naming) ≡ named (f .opcode)
+    dropped : s .dropped ≡ droppedIn bs (z .wide)
 
   -- of a list of reads: where it accepts, the record was made at its spans, and none of its own refusals was met
   abbrev Goes : List Read → Type 0
@@ -45,23 +46,32 @@ module _ (bs : List ℕ) (number : ℕ) (o : Opcode) where
             short = ap (λ k. bytes bs k n) (h .taken);
             early = h .short;
             opcode = h .opcode;
+            dropped = h .dropped;
           })
       by false false = λ k. absurd (omega arith)
 
-  imm-goes : (n bound : ℕ) (rs : List Read) → Goes rs → (f : Face) (s : Seen) (z : Spans) → SoFar z f s
-      → andThen bs (readImm n bound bs s) (run rs bs f) .refusal ≡ 0 → Made bs number o f (follow rs (immNext n bound z)) (andThen bs (readImm n bound bs s) (run rs bs f) .inst) × (fate rs ≡ 0)
-  unfolding readImm
-  imm-goes n bound rs ih f s z h = by (leb (s .taken + n) (length bs))
+  -- a number for imm_wide, from a source of its own
+  imm-goes : (n : ℕ) (kept : ℕ → ℕ) (lost : ℕ → Bool) (source : ℕ → Source)
+      → ((p : ℕ) → kept (bytes bs p n) ≡ wideIn bs number (source p)) → ((p : ℕ) → lost (bytes bs p n) ≡ droppedIn bs (source p))
+      → (rs : List Read) → Goes rs → (f : Face) (s : Seen) (z : Spans) → SoFar z f s
+      → andThen bs (readInto n (λ v. withImm n (kept v) (lost v)) bs s) (run rs bs f) .refusal ≡ 0
+      → Made bs number o f (follow rs (immNext (source (z .length)) n z)) (andThen bs (readInto n (λ v. withImm n (kept v) (lost v)) bs s) (run rs bs f) .inst) × (fate rs ≡ 0)
+  unfolding readInto
+  imm-goes n kept lost source wide dropped rs ih f s z h = by (leb (s .taken + n) (length bs))
     where
-      by : (l : Bool) → andThen bs (pick l (On (withImm n (bytes bs (s .taken) n % bound) s)) Short) (run rs bs f) .refusal ≡ 0
-          → Made bs number o f (follow rs (immNext n bound z)) (andThen bs (pick l (On (withImm n (bytes bs (s .taken) n % bound) s)) Short) (run rs bs f) .inst) × (fate rs ≡ 0)
+      after : Seen
+      after = let v = bytes bs (s .taken) n in withImm n (kept v) (lost v) s
+
+      by : (l : Bool) → andThen bs (pick l (On after) Short) (run rs bs f) .refusal ≡ 0
+          → Made bs number o f (follow rs (immNext (source (z .length)) n z)) (andThen bs (pick l (On after) Short) (run rs bs f) .inst) × (fate rs ≡ 0)
       by true =
-          ih f (withImm n (bytes bs (s .taken) n % bound) s) (immNext n bound z) (record {
+          ih f after (immNext (source (z .length)) n z) (record {
             taken = ap (λ k. k + n) (h .taken);
-            wide = ap (λ k. bytes bs k n % bound) (h .taken);
+            wide = ap (λ k. kept (bytes bs k n)) (h .taken) ∙ wide (z .length);
             short = h .short;
             early = h .early;
             opcode = h .opcode;
+            dropped = ap (λ k. lost (bytes bs k n)) (h .taken) ∙ dropped (z .length);
           })
       by false = λ k. absurd (omega arith)
 
@@ -79,6 +89,7 @@ module _ (bs : List ℕ) (number : ℕ) (o : Opcode) where
     op1 = d .op1;
     op2 = d .op2;
     marked = d .marked;
+    dropped = d .dropped;
   }
 
   cond-goes : (rs : List Read) → Goes rs → Goes (cond ∷ rs)
@@ -96,6 +107,7 @@ module _ (bs : List ℕ) (number : ℕ) (o : Opcode) where
             short = h .short;
             early = h .early;
             opcode = ap (λ n. condOf (getD bs n 0)) (sym (h .taken)) ∙ e;
+            dropped = h .dropped;
           }) k
           in
           (face-kept p f _ _ (d .0), d .1)
@@ -117,19 +129,20 @@ module _ (bs : List ℕ) (number : ℕ) (o : Opcode) where
       op1 = refl;
       op2 = refl;
       marked = refl;
+      dropped = h .dropped;
     },
     refl,
   )
   goes (num (disp n) ∷ rs) f s z h k = disp-goes n rs (goes rs) f s z h k
-  goes (num (imm n) ∷ rs) f s z h k = imm-goes n (256 ^ n) rs (goes rs) f s z h k
-  goes (num imm20 ∷ rs) f s z h k = imm-goes 3 twentyBits rs (goes rs) f s z h k
+  goes (num (imm n) ∷ rs) f s z h k = imm-goes n (λ v. v % 256 ^ n) (λ v. false) (λ p. read (span p n)) (λ p. refl) (λ p. refl) rs (goes rs) f s z h k
+  goes (num imm20 ∷ rs) f s z h k = imm-goes 3 (λ v. v % twentyBits) (leb twentyBits) twenty (λ p. refl) (λ p. refl) rs (goes rs) f s z h k
   goes (cond ∷ rs) f s z h k = cond-goes rs (goes rs) f s z h k
   goes (stop InvalidOpcode ∷ rs) f s z h k = absurd (omega arith)
   goes (stop InvalidOperand ∷ rs) f s z h k = absurd (omega arith)
 
 row-goes : (w : Row) (bs : List ℕ) → runRow w bs .refusal ≡ 0 → MadeBy w bs (runRow w bs .inst) × (fate (w .reads) ≡ 0)
 unfolding runRow spansOf
-row-goes w bs = goes bs (w .number) (w .face .opcode) (w .reads) (w .face) (begun (w .number)) _ (record { taken = refl; wide = refl; short = refl; early = refl; opcode = refl })
+row-goes w bs = goes bs (w .number) (w .face .opcode) (w .reads) (w .face) (begun (w .number)) _ (record { taken = refl; wide = refl; short = refl; early = refl; opcode = refl; dropped = refl })
 
 -- what is accepted has a first byte that is known and a row that does not refuse, and was made by that row
 pub record Accepted (t : Table) (a b : ℕ) (bs : List ℕ) (r : Record) : Type 0 where

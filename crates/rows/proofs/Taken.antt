@@ -17,7 +17,7 @@ use Rattle.record.specs.declared.Got.the-variants.{On, Short}
 use Rattle.rows.specs.Row.{Num, disp, imm, imm20, InvalidOpcode, InvalidOperand, Read, num, cond, stop, Condition, named, unnamed, Face, Row, Table}
 use Rattle.rows.specs.Codes.{condOf}
 use Rattle.rows.specs.Fate.{bytesOf}
-use Rattle.rows.specs.Run.{reading, readDisp, readImm, andThen, judged, past, renamed, refusal, run, runRow, begun, decodeBy}
+use Rattle.rows.specs.Run.{reading, readDisp, readInto, andThen, judged, past, renamed, refusal, run, runRow, begun, decodeBy}
 
 -- a read that goes on has taken its bytes, and they were there; else they were not
 abbrev pub Went : ℕ → ℕ → Seen → Got → Type 0
@@ -29,7 +29,7 @@ went n b s true x y f g = f refl
 went n b s false x y f g = g refl
 
 pub reading-went : (k : Num) (bs : List ℕ) (s : Seen) → s .taken ≤ length bs → Went (bytesOf k) (length bs) s (reading k bs s)
-unfolding readDisp readImm
+unfolding readDisp readInto
 reading-went (disp n) bs s h =
     went n _ s (eqb n 0) _ _ (λ e. omega (arith, eqb-true n 0 e))
     (λ e. went n _ s (leb (s .taken + n) (length bs)) _ _ (λ t. (refl, leb-true (s .taken + n) (length bs) t)) (λ t. leb-false (s .taken + n) (length bs) t))

@@ -1,6 +1,6 @@
 -- Document 01, "What comes back": one reader of all rows.
 use Prim.Native.Nat.{ℕ, zero, suc, _+_, _*_, _^_, _%_}
-use mathlib.Core.Bool.{Bool}
+use mathlib.Core.Bool.{Bool, false}
 use mathlib.Core.List.{List, [], _∷_}
 use lib.ListN.{getD, length}
 use lib.Dec.{ltb, leb, eqb}
@@ -27,26 +27,36 @@ bytes bs p (suc (suc n)) = getD bs p 0 + 256 * bytes bs (p + 1) (suc n)
 
 -- a displacement of n bytes: where it overwrites an earlier one, first keeps that
 abbrev pub withDisp : ℕ → ℕ → Seen → Seen
-withDisp n v s = record { «imm_wide» = s .«imm_wide»; dispabs = v; first = s .dispabs; taken = s .taken + n }
+withDisp n v s = record { «imm_wide» = s .«imm_wide»; dispabs = v; first = s .dispabs; dropped = s .dropped; taken = s .taken + n }
+
+-- a number of n bytes for imm_wide, and whether bits of it were dropped
+abbrev pub withImm : ℕ → ℕ → Bool → Seen → Seen
+withImm n v d s = record { «imm_wide» = v; dispabs = s .dispabs; first = s .first; dropped = d; taken = s .taken + n }
+
+-- n bytes are read and passed on, if they are there
+unfoldable pub readInto : ℕ → (ℕ → Seen → Seen) → List ℕ → Seen → Got
+readInto n into bs s = pick (leb (s .taken + n) (length bs)) (On (into (bytes bs (s .taken) n) s)) Short
 
 unfoldable pub readDisp : ℕ → List ℕ → Seen → Got
-readDisp n bs s = pick (eqb n 0) (On s) (pick (leb (s .taken + n) (length bs)) (On (withDisp n (bytes bs (s .taken) n) s)) Short)
+unfolding readInto
+readDisp n bs s = pick (eqb n 0) (On s) (readInto n (withDisp n) bs s)
 
-abbrev pub withImm : ℕ → ℕ → Seen → Seen
-withImm n v s = record { «imm_wide» = v; dispabs = s .dispabs; first = s .first; taken = s .taken + n }
-
--- n bytes into imm_wide, kept below m
-unfoldable pub readImm : ℕ → ℕ → List ℕ → Seen → Got
-readImm n m bs s = pick (leb (s .taken + n) (length bs)) (On (withImm n (bytes bs (s .taken) n % m) s)) Short
+-- kept whole
+abbrev pub inFull : ℕ → ℕ → Seen → Seen
+inFull n v = withImm n (v % 256 ^ n) false
 
 -- L and Disp20: what is kept of three bytes
 abbrev pub twentyBits : ℕ
 twentyBits = 0x100000
 
+-- request A6: and that the nibble above was not zero
+abbrev pub inTwenty : ℕ → Seen → Seen
+inTwenty v = withImm 3 (v % twentyBits) (leb twentyBits v)
+
 abbrev pub reading : Num → List ℕ → Seen → Got
 reading (disp n) = readDisp n
-reading (imm n) = readImm n (256 ^ n)
-reading imm20 = readImm 3 twentyBits
+reading (imm n) = readInto n (inFull n)
+reading imm20 = readInto 3 inTwenty
 
 -- 0: the record, whose length is the bytes taken
 abbrev pub accepted : Opcode → Size → Width → Operand → Operand → Bool → Seen → Answer
@@ -63,6 +73,7 @@ accepted o z w a b m s = record {
     op1 = b;
     op2 = Nothing;
     marked = m;
+    dropped = s .dropped;
   };
   taken = s .taken;
   refusal = 0;
@@ -78,7 +89,7 @@ andThen bs (On s) k = k s
 andThen bs Short k = refusal 1 (length bs)
 
 abbrev pub past : Seen → Seen
-past s = record { «imm_wide» = s .«imm_wide»; dispabs = s .dispabs; first = s .first; taken = s .taken + 1 }
+past s = record { «imm_wide» = s .«imm_wide»; dispabs = s .dispabs; first = s .first; dropped = s .dropped; taken = s .taken + 1 }
 
 abbrev pub renamed : Opcode → Face → Face
 renamed o f = record { opcode = o; size = f .size; width = f .width; op0 = f .op0; op1 = f .op1; marked = f .marked }
@@ -97,7 +108,7 @@ run (stop e ∷ rs) bs f s = refusal (refusalNo e) (s .taken)
 
 -- two bytes were taken
 abbrev pub begun : ℕ → Seen
-begun v = record { «imm_wide» = v; dispabs = 0; first = 0; taken = 2 }
+begun v = record { «imm_wide» = v; dispabs = 0; first = 0; dropped = false; taken = 2 }
 
 unfoldable pub runRow : Row → List ℕ → Answer
 runRow r bs = run (r .reads) bs (r .face) (begun (r .number))

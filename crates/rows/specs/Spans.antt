@@ -1,8 +1,9 @@
 -- Where a row's numbers stand in the bytes of the instruction, and how long it is: document 01's reads, by place instead of by value.
 use Prim.Native.Nat.{ℕ, _+_, _^_, _%_}
 use mathlib.Core.Path.{_≡_}
+use mathlib.Core.Bool.{Bool, false}
 use mathlib.Core.List.{List, [], _∷_}
-use lib.Dec.{eqb}
+use lib.Dec.{eqb, leb}
 use lib.ListN.{getD}
 use Rattle.laws.specs.Choice.{pick}
 use Rattle.record.specs.declared.Opcode.{Opcode}
@@ -20,10 +21,11 @@ pub record Span : Type 0 where
 abbrev pub span : ℕ → ℕ → Span
 span a n = record { from = a; count = n }
 
--- the number in imm_wide is part of the code, or was read, and is kept below a bound
+-- the number in imm_wide is part of the code, or was read and kept whole, or was read from the three bytes at a place and kept to 20 bits
 pub data Source : Type 0 where
   code : Source
-  read : Span → ℕ → Source
+  read : Span → Source
+  twenty : ℕ → Source
 
 -- the row names the opcode, or the condition byte at a place does
 pub data Naming : Type 0 where
@@ -45,8 +47,8 @@ spans w s e o l = record { wide = w; short = s; early = e; naming = o; length = 
 abbrev pub dispNext : ℕ → Spans → Spans
 dispNext n z = spans (z .wide) (span (z .length) n) (z .short) (z .naming) (z .length + n)
 
-abbrev pub immNext : ℕ → ℕ → Spans → Spans
-immNext n bound z = spans (read (span (z .length) n) bound) (z .short) (z .early) (z .naming) (z .length + n)
+abbrev pub immNext : Source → ℕ → Spans → Spans
+immNext source n z = spans source (z .short) (z .early) (z .naming) (z .length + n)
 
 abbrev pub condNext : Spans → Spans
 condNext z = spans (z .wide) (z .short) (z .early) (byByte (z .length)) (z .length + 1)
@@ -54,8 +56,8 @@ condNext z = spans (z .wide) (z .short) (z .early) (byByte (z .length)) (z .leng
 unfoldable pub follow : List Read → Spans → Spans
 follow [] z = z
 follow (num (disp n) ∷ rs) z = follow rs (pick (eqb n 0) z (dispNext n z))
-follow (num (imm n) ∷ rs) z = follow rs (immNext n (256 ^ n) z)
-follow (num imm20 ∷ rs) z = follow rs (immNext 3 twentyBits z)
+follow (num (imm n) ∷ rs) z = follow rs (immNext (read (span (z .length) n)) n z)
+follow (num imm20 ∷ rs) z = follow rs (immNext (twenty (z .length)) 3 z)
 follow (cond ∷ rs) z = follow rs (condNext z)
 follow (stop e ∷ rs) z = z
 
@@ -70,7 +72,14 @@ numberIn bs s = bytes bs (s .from) (s .count)
 
 abbrev pub wideIn : List ℕ → ℕ → Source → ℕ
 wideIn bs number code = number
-wideIn bs number (read s bound) = numberIn bs s % bound
+wideIn bs number (read s) = numberIn bs s % 256 ^ s .count
+wideIn bs number (twenty p) = bytes bs p 3 % twentyBits
+
+-- request A6: of a 20-bit number alone bits may be dropped
+abbrev pub droppedIn : List ℕ → Source → Bool
+droppedIn bs code = false
+droppedIn bs (read s) = false
+droppedIn bs (twenty p) = leb twentyBits (bytes bs p 3)
 
 abbrev pub namedIn : List ℕ → Opcode → Naming → Condition
 namedIn bs o byRow = named o
@@ -89,6 +98,7 @@ pub record Made (bs : List ℕ) (number : ℕ) (o : Opcode) (f : Face) (z : Span
   pub op1 : r .op1 ≡ f .op1
   pub op2 : r .op2 ≡ Nothing
   pub marked : r .marked ≡ f .marked
+  pub dropped : r .dropped ≡ droppedIn bs (z .wide)
 
 -- by a row
 abbrev pub MadeBy : Row → List ℕ → Record → Type 0

@@ -109,6 +109,7 @@ aim f k = record {
   op1 = f .op1;
   op2 = Nothing;
   marked = false;
+  dropped = false;
 }
 
 abbrev pub other : Bool → Bool

@@ -25,6 +25,7 @@ made i d f o z w p q r = record {
   op1 = q;
   op2 = r;
   marked = false;
+  dropped = false;
 }
 
 -- equal names make equal records

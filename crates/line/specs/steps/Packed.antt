@@ -7,7 +7,7 @@ use Rattle.laws.specs.Choice.{pick}
 use Rattle.record.specs.declared.Record.{Record}
 use Rattle.record.specs.Signed.{numberAt}
 use Rattle.line.specs.Characters.{spelled, hex}
-use Rattle.line.specs.Line.{widthText, opcodeText, sizeText, shown, numberText}
+use Rattle.line.specs.Line.{widthText, opcodeText, sizeText, shown, numberText, droppedText}
 
 abbrev pub pack : List ℕ → ℕ
 pack [] = 0
@@ -46,7 +46,7 @@ parts r =
     widthText (r .width) ∷ opcodeText (r .opcode) ∷ sizeText (r .size)
     ∷ firstEight (shown (r .op0)) ∷ afterEight (shown (r .op0)) ∷ numberText (r .op0) (numberAt r 0 .value)
     ∷ firstEight (shown (r .op1)) ∷ afterEight (shown (r .op1)) ∷ numberText (r .op1) (numberAt r 1 .value)
-    ∷ firstEight (shown (r .op2)) ∷ afterEight (shown (r .op2)) ∷ numberText (r .op2) (numberAt r 2 .value) ∷ []
+    ∷ firstEight (shown (r .op2)) ∷ afterEight (shown (r .op2)) ∷ numberText (r .op2) (numberAt r 2 .value) ∷ droppedText (r .dropped) ∷ []
 
 abbrev pub endParts : ℕ → List (List ℕ)
 endParts place = spelled "END " ∷ hex 4 place ∷ []

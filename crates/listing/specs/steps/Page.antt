@@ -31,7 +31,7 @@ pagesLeft bs Nothing = 0
 pub record Filled (bs : List ℕ) (next : Next) (room : ℕ) (r : Page) (out : List ℕ) : Type 0 where
   pub same : take (r .length) out ++ toList bs (r .next) ≡ toList bs next
   pub inside : r .length ≤ room
-  pub onward : 113 ≤ room → isMore next ≡ true → pagesLeft bs (r .next) < pagesLeft bs next
+  pub onward : 121 ≤ room → isMore next ≡ true → pagesLeft bs (r .next) < pagesLeft bs next
 
 -- a text made of pages, one after the other until nothing is to be listed
 pub data Paged : List ℕ → Next → List ℕ → Type 0 where

@@ -6,14 +6,14 @@ use native.Mathlib.Omega.{arith}
 use lib.ListN.{drop}
 use borrow.Author.Tests.{lt-ltb, le-ltb}
 use borrow.Author.Needs.{needs}
-use Rattle.m16c_decode.specs.Decoded.{decoded, numbersOf}
+use Rattle.m16c_decode.specs.Decoded.{decoded, entries, numbersOf}
 use Rattle.m16c_decode.proofs.Stores.{small, short}
 use Rattle.m16c_decode.proofs.m16c_decode.Statement.{statement}
 use Rattle.m16c_decode.proofs.m16c_decode.Tie as tie
 
 returns : tie.Need-returns
 unfolding decoded
-returns c = record { returned = rw (lt-ltb _ 12 (c .if1 .taken)); kept = rw (lt-ltb _ 12 (c .if1 .taken)) }
+returns c = record { returned = rw (lt-ltb _ entries (c .if1 .taken)); kept = rw (lt-ltb _ entries (c .if1 .taken)) }
 
 deliver-requires : tie.Need-deliver-requires
 deliver-requires c κs = let t = small (c .before .before .before .before .before .args .image .now)
@@ -26,10 +26,10 @@ returns-2 : tie.Need-returns-2
 unfolding decoded
 returns-2 c =
     let d = c .before .before .before .before .before in
-    let room = le-ltb _ 12 (d .before .if1 .left) in
+    let room = le-ltb _ entries (d .before .if1 .left) in
     let e = d .decode .ensures in
     let start = d .before .before .before .before .args in
-    record { returned = rw room (ap (λ x. x .refusal) e); kept = rw room (c .before .before .before .deliver .ensures ∙ ap (λ x. numbersOf x ++ drop 12 (start .out .now)) e) }
+    record { returned = rw room (ap (λ x. x .refusal) e); kept = rw room (c .before .before .before .deliver .ensures ∙ ap (λ x. numbersOf x ++ drop entries (start .out .now)) e) }
 
 pub m16c-decode-spec : {M : Type 1} → statement M
 m16c-decode-spec = tie.close (tie.spec (λ c. search needs) returns (λ c κs. search needs) deliver-requires (λ c. search needs) (λ c. search needs) returns-2)

@@ -10,7 +10,7 @@ use Rattle.record.specs.declared.fields.Field.the-variants.{Nowhere as nowhere,
 use Rattle.record.specs.Same.{sameName, fieldOf, field0, field1}
 use Rattle.manual.specs.Meaning.{Suffix, Spot, nothing, plain, behind, within, Meaning}
 use Rattle.rows.specs.Row.{Row}
-use Rattle.rows.specs.Spans.{Span, Source, code, read, spansOf}
+use Rattle.rows.specs.Spans.{Span, Source, code, read, twenty, spansOf}
 use Rattle.rows.specs.Agree.{inCode, recorded, sizeFits}
 
 -- an operand whose number stands at a span; imm_wide may hold a number of the code
@@ -19,7 +19,8 @@ spotAt a s = behind a (s .from) (s .count)
 
 abbrev pub spotWide : Operand → ℕ → Source → Spot
 spotWide a number code = within a (inCode a number)
-spotWide a number (read s bound) = spotAt a s
+spotWide a number (read s) = spotAt a s
+spotWide a number (twenty p) = behind a p 3
 
 unfoldable pub spot : Operand → Field → Row → Spot
 unfolding sameName spansOf

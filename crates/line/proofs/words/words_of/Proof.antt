@@ -30,7 +30,8 @@ number a e h = h ∙ ap (λ (v : ℕ). pack (numberText a (numberOf a v))) e
 
 returns : tie.Need-returns
 returns c =
-    let y = c .before in
+    let z = c .before in
+    let y = z .before in
     let x = y .before in
     let t = x .before in
     let start = first t .before .args in
@@ -41,13 +42,13 @@ returns c =
     let d = third t .operand-shown3 .ensures in
     let number0 = number (r .op0) (held .0) (x .number-word .ensures) in
     let number1 = number (r .op1) (held .1) (y .number-word2 .ensures) in
-    let number2 = number (r .op2) (held .2) (c .number-word3 .ensures) in
+    let number2 = number (r .op2) (held .2) (z .number-word3 .ensures) in
     λ j. start .first ∷ start .second
     ∷ t .before .before .width-word .ensures j ∷ t .before .opcode-word .ensures j ∷ t .size-word .ensures j
-    ∷ a .0 j ∷ a .1 j ∷ number0 j ∷ b .0 j ∷ b .1 j ∷ number1 j ∷ d .0 j ∷ d .1 j ∷ number2 j ∷ []
+    ∷ a .0 j ∷ a .1 j ∷ number0 j ∷ b .0 j ∷ b .1 j ∷ number1 j ∷ d .0 j ∷ d .1 j ∷ number2 j ∷ c .dropped-word .ensures j ∷ []
 
 pub words-of-spec : {M : Type 1} → statement M
 words-of-spec =
     tie.close
     (tie.spec (λ c κs. search needs) (λ c κs. search needs) (λ c κs. search needs) (λ c κs. search needs) (λ c κs. search needs) (λ c κs. search needs) (λ c κs. search needs)
-    (λ c κs. search needs) (λ c κs. search needs) (λ c κs. search needs) returns)
+    (λ c κs. search needs) (λ c κs. search needs) (λ c κs. search needs) (λ c κs. search needs) returns)

@@ -24,7 +24,7 @@ use Rattle.listing.proofs.page.fill_lines.Tie as tie
 
 abbrev Inv-loop : tie.InvT-loop
 Inv-loop image from out₀ at₀ place₀ out at place =
-    (at ≤ length out) × (length out ≡ length out₀) × (from ≤ place) × (place ≤ from + (length image - from)) × (at ≤ 113 * (place - from))
+    (at ≤ length out) × (length out ≡ length out₀) × (from ≤ place) × (place ≤ from + (length image - from)) × (at ≤ 121 * (place - from))
     × (take at out ++ listed image place ≡ listed image from)
 
 abbrev μ-loop : tie.MeasureT-loop
@@ -54,7 +54,7 @@ here p = p .before .before .step-at .result
 abbrev line : Put → List ℕ
 line p = lineAt (turn p .loop .place) (here p)
 
-room : (p : Put) → length (line p) ≤ 113
+room : (p : Put) → length (line p) ≤ 121
 room p = line-room (turn p .loop .place) (here p)
 
 lies : (p : Put) {s : Step} → here p ≡ s → Told (image p) (turn p .loop .place) s
