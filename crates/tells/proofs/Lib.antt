@@ -1,0 +1,13 @@
+pub mod Split
+pub mod Names
+pub mod Numbers
+pub mod Operands
+pub mod Line
+pub mod Apart
+pub mod Codes
+pub mod Shown
+pub mod Spelled
+pub mod Stamped
+pub mod Limits
+pub mod Clear
+pub mod Tells
