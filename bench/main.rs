@@ -13,7 +13,7 @@ use std::time::Instant;
 use c::{m16c_decode, m16c_encode, m16c_line, m16c_operand_number, m16c_sweep};
 use c::{Decode, Encode, Line, OperandNumber, Sweep};
 use c::{LONGEST_IMAGE, LONGEST_INSTRUCTION, LONGEST_LINE};
-use peer_call::{at_each, nothing_decoded, nothing_encoded, rust_decode, Record};
+use peer_call::{at_each, nothing_decoded, nothing_encoded, rust_decode, Record, NUMBERS};
 use peer_loop::rust_decode_at_each;
 use peer_sweep_call::rust_sweep as rust_sweep_call;
 use peer_sweep_loop::rust_sweep as rust_sweep_loop;
@@ -28,6 +28,7 @@ const ASKED: usize = 0;
 // Numbers of a record that the Rust does not have.
 const FIRST: usize = 9;
 const MARKED: usize = 11;
+const DROPPED: usize = 12;
 
 extern "C" {
     fn syscall(number: i64, first: i64, ...) -> i64;
@@ -302,13 +303,14 @@ fn check_same_work(work: &Workload) -> Result<(), String> {
     work.pieces.iter().try_for_each(|piece| check_sweeping(piece))
 }
 
-/// All deliver the same, but for the two numbers that the Rust has not.
+/// All deliver the same, but for the three numbers that the Rust has not.
 fn check_decoding(work: &Workload, place: u32) -> Result<(), String> {
     let mut rattle = called(m16c_decode, &work.image, place);
     rattle.1[FIRST] = 0;
     rattle.1[MARKED] = 0;
+    rattle.1[DROPPED] = 0;
     let rust_call = called(rust_decode, &work.image, place);
-    let mut rust_loop = [0; 12];
+    let mut rust_loop = [0; NUMBERS];
     rust_decode_at_each(&work.image, &[place], &mut rust_loop);
     if rattle != rust_call || rust_loop != rust_call.1 {
         let answers = format!("rattle {rattle:?}\nrust, call {rust_call:?}\nrust, loop {rust_loop:?}");
@@ -382,7 +384,7 @@ fn swept(sweep: Sweep, piece: &[u8]) -> (u32, usize, usize, Vec<u16>) {
 }
 
 fn called(decode: Decode, image: &[u8], place: u32) -> (u32, Record) {
-    let mut record = [u32::MAX; 12];
+    let mut record = [u32::MAX; NUMBERS];
     let out = record.as_mut_slice();
     let refusal = unsafe { decode(image.as_ptr(), image.len(), place as usize, out.as_mut_ptr(), out.len()) };
     (refusal, record)
@@ -390,7 +392,7 @@ fn called(decode: Decode, image: &[u8], place: u32) -> (u32, Record) {
 
 fn new_out() -> Out {
     Out {
-        record: [0; 12],
+        record: [0; NUMBERS],
         bytes: [0; LONGEST_INSTRUCTION],
         length: 0,
         starts: vec![0; LONGEST_IMAGE],

@@ -16,7 +16,7 @@ fn deliver(image: &[u8], at: usize, out: &mut [u32]) -> u32 {
             u32::from(ACCEPTED)
         }
         Err(refusal) => {
-            *record = [0; 12];
+            *record = [0; crate::NUMBERS];
             record[0] = reader.taken as u32;
             u32::from(refusal)
         }
@@ -32,7 +32,7 @@ fn width_number(first: u8) -> u32 {
     }
 }
 
-// The Rust has neither the earlier displacement nor the mark: their numbers are 0.
+// The Rust has neither the earlier displacement nor the mark, and does not tell of dropped bits: their numbers are 0.
 #[inline(always)]
 fn numbers(inst: &Instruction, width: u32, taken: usize) -> crate::Record {
     let (opcode, size) = opcode_and_size_numbers(inst.opcode);
@@ -49,6 +49,7 @@ fn numbers(inst: &Instruction, width: u32, taken: usize) -> crate::Record {
         u32::from(inst.dispabs),
         0,
         u32::from(inst.length),
+        0,
         0,
     ]
 }

@@ -15,8 +15,9 @@ pub use given::rust_sweep;
 
 use core::hint::black_box;
 
-/// How an instruction is delivered: taken, opcode, size, width, three operands, imm_wide, dispabs, first, length, marked.
-pub type Record = [u32; 12];
+/// How an instruction is delivered: taken, opcode, size, width, three operands, imm_wide, dispabs, first, length, marked, dropped.
+pub const NUMBERS: usize = 13;
+pub type Record = [u32; NUMBERS];
 
 /// The loop of every measurement. The boxes keep the compiler from working ahead, and from dropping what nobody reads.
 #[inline(always)]

@@ -29,6 +29,8 @@ static void decode(const uint8_t *image, size_t length)
     printf("an instruction of %u bytes\n", (unsigned)record[M16C_LENGTH]);
     if (record[M16C_OPCODE] == M16C_OPCODE_STE && record[M16C_OP0] == M16C_OPERAND_ABS16 && record[M16C_OP1] == M16C_OPERAND_ABS20)
         printf("STE from address %04X to address %05X\n", (unsigned)record[M16C_DISPABS], (unsigned)record[M16C_IMM_WIDE]);
+    if (record[M16C_DROPPED])
+        printf("of the address's three bytes four bits were dropped, and were not zero\n");
     show_numbers(record);
 }
 

@@ -26,11 +26,13 @@ const TOO_LITTLE_ROOM: u32 = 6;
 
 // ---- What is compared
 
-const FIELDS: usize = 12;
+const FIELDS: usize = 13;
+// An encoder wants so many of them; those behind do not count.
+const WANTED: usize = 12;
 #[rustfmt::skip]
 const FIELD_NAMES: [&str; FIELDS] = [
     "taken", "opcode", "size", "width", "operand 0", "operand 1", "operand 2", "imm_wide", "dispabs", "first", "length",
-    "marked",
+    "marked", "dropped",
 ];
 const TAKEN: usize = 0;
 const OPCODE: usize = 1;
@@ -42,6 +44,7 @@ const DISPABS: usize = 8;
 const FIRST: usize = 9;
 const LENGTH: usize = 10;
 const MARKED: usize = 11;
+const DROPPED: usize = 12;
 // What an accepted answer is free in, because the Rust does not have it, with the greatest number that fits.
 const FREE_FIELDS: [(usize, u32); 2] = [(FIRST, 0xFFFF), (MARKED, 1)];
 
@@ -51,7 +54,7 @@ struct Answer {
     fields: [u32; FIELDS],
 }
 
-/// What the port has to answer, by the Rust; 0 in the fields that the Rust does not have.
+/// What the port has to answer, by the Rust, and by the bytes whether bits were dropped; 0 in the other fields that the Rust does not have.
 fn expected(bytes: &[u8]) -> Answer {
     let rust = oracle::answer(bytes);
     let accepted = rust.refusal == oracle::ACCEPTED;
@@ -71,8 +74,14 @@ fn expected(bytes: &[u8]) -> Answer {
             0,
             rust.length.into(),
             0,
+            u32::from(accepted && reads_20_bits(&rust.operands) && bytes[rust.taken - 1] >= 0x10),
         ],
     }
+}
+
+/// Request A6. The bytes tell what the Rust drops: a 20-bit number is the last that a row reads, and of its last byte four bits count.
+fn reads_20_bits(operands: &[u8; 3]) -> bool {
+    operands.iter().any(|operand| matches!(oracle::OPERAND_NAMES[usize::from(*operand)], "Abs20" | "Disp20_A0" | "Disp20_A1"))
 }
 
 fn width_number(first: u8) -> u32 {
@@ -159,7 +168,7 @@ fn describe(image: &[u8], at: usize, rust: &Answer, port: &Answer) -> String {
         let wanted = rust.fields[field];
         line(name, wanted, port.fields[field], wanted == judged.fields[field]);
     }
-    text += "  (in hex; `first` and `marked` the Rust does not have, it shows 0 for them)\n";
+    text += "  (in hex; the Rust has no `first`, `marked` and `dropped`: 0 is shown for the first two, and what the bytes say for the third)\n";
     text
 }
 
@@ -189,6 +198,7 @@ const KINDS: &[Kind] = &[
     Kind { name: "5 to 9 bytes, at random", quick_parts: 100, all_parts: 1000, run_part: random_strings },
     Kind { name: "accepted, cut short", quick_parts: 100, all_parts: 1000, run_part: cut_strings },
     Kind { name: "accepted, one byte damaged", quick_parts: 100, all_parts: 1000, run_part: damaged_strings },
+    Kind { name: "every last byte, of codes that read 20 bits", quick_parts: CODES, all_parts: CODES, run_part: last_bytes },
     Kind { name: "places in an image, at its end and past it", quick_parts: 100, all_parts: 1000, run_part: places_in_images },
     Kind { name: "buffers too short or too long", quick_parts: CODES, all_parts: CODES, run_part: buffers },
 ];
@@ -252,6 +262,25 @@ fn damaged_strings(part: usize, tally: &mut Tally) {
     }
 }
 
+/// Strings of a code that reads 20 bits, with every last byte: none of another code. A part is a code.
+fn twenty_bit_strings(part: usize) -> Vec<Vec<u8>> {
+    let (first, second) = code_of(part);
+    let mut random = Random::of("last bytes", part);
+    let string: Vec<u8> = [first, second].into_iter().chain((0..5).map(|_| random.byte())).collect();
+    let rust = oracle::answer(&string);
+    if rust.refusal != oracle::ACCEPTED || !reads_20_bits(&rust.operands) {
+        return Vec::new();
+    }
+    let (_, kept) = string[..rust.taken].split_last().expect("an instruction has bytes");
+    (0..=255).map(|last| kept.iter().copied().chain([last]).collect()).collect()
+}
+
+fn last_bytes(part: usize, tally: &mut Tally) {
+    for string in twenty_bit_strings(part) {
+        tally.compare(&string, 0);
+    }
+}
+
 // The image lies inside other bytes, so that reading past its end would be seen.
 fn places_in_images(part: usize, tally: &mut Tally) {
     const AROUND: usize = 16;
@@ -267,7 +296,7 @@ fn places_in_images(part: usize, tally: &mut Tally) {
     }
 }
 
-// Twelve numbers are written or none, and none behind them. A part is a code.
+// Thirteen numbers are written or none, and none behind them. A part is a code.
 fn buffers(part: usize, tally: &mut Tally) {
     const LONGEST_BUFFER: usize = 16;
     let (first, second) = code_of(part);

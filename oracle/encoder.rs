@@ -5,7 +5,7 @@ use std::fmt::Write;
 use crate::brute::{self, Record, Spelling};
 use crate::operands;
 use crate::{c, code_of, expected, hex, ported, Kind, Random, Tally, CODES, TOO_LITTLE_ROOM};
-use crate::{FIELDS, FIELD_NAMES, MARKED, OPCODE, OPERANDS, SIZE, TAKEN, WIDTH};
+use crate::{DROPPED, FIELDS, FIELD_NAMES, MARKED, OPCODE, OPERANDS, SIZE, TAKEN, WANTED, WIDTH};
 
 const NO_STRING: u32 = 5;
 
@@ -227,7 +227,7 @@ pub fn any_number(field: usize, random: &mut Random) -> u32 {
         OPCODE => oracle::OPCODE_NAMES.len(),
         SIZE => oracle::SIZE_NAMES.len(),
         WIDTH => operands::WIDTHS,
-        MARKED => 2,
+        MARKED | DROPPED => 2,
         _ if OPERANDS.contains(&field) => oracle::OPERAND_NAMES.len(),
         _ => return edge_or_any(random),
     };
@@ -259,7 +259,7 @@ fn record_lengths(part: usize, tally: &mut Tally) {
     let mut numbers = [0xDEAD_BEEF; MOST];
     numbers[..FIELDS].copy_from_slice(&record);
     for count in 0..=MOST {
-        let answer = if count < FIELDS { None } else { brute::encode(&record) };
+        let answer = if count < WANTED { None } else { brute::encode(&record) };
         compare(tally, &numbers[..count], answer, WIDE_ROOM);
     }
 }
@@ -300,6 +300,6 @@ fn odd_record(line: &str) -> Option<(Record, Option<Spelling>)> {
     };
     let byte = |k: usize| u8::from_str_radix(digits.get(2 * k..2 * k + 2)?, 16).ok();
     let bytes: Vec<u8> = (0..length as usize).map(byte).collect::<Option<_>>()?;
-    let record = [0, opcode, size, width, op0, op1, op2, imm_wide, dispabs, first, 0, 0];
+    let record = [0, opcode, size, width, op0, op1, op2, imm_wide, dispabs, first, 0, 0, 0];
     Some((record, (refusal == 0).then(|| Spelling::of(&bytes))))
 }

@@ -1,13 +1,14 @@
 // The line's part of the differential run: the port's `m16c_line` beside a line put together from what the Rust answers.
 
 use crate::operands::{is_signed, number_of};
-use crate::{c, code_of, expected, hex, ported, Kind, Random, Tally, CODES, TOO_LITTLE_ROOM};
-use crate::{FIRST, LENGTH, OPCODE, OPERANDS, SIZE, WIDTH};
+use crate::{c, code_of, expected, hex, ported, twenty_bit_strings, Kind, Random, Tally, CODES, TOO_LITTLE_ROOM};
+use crate::{DROPPED, FIRST, LENGTH, OPCODE, OPERANDS, SIZE, WIDTH};
 
 #[rustfmt::skip]
 pub const KINDS: &[Kind] = &[
     Kind { name: "lines of 2 and 3 bytes, every one", quick_parts: CODES, all_parts: CODES, run_part: short_strings },
     Kind { name: "lines of every code, at random", quick_parts: CODES, all_parts: 16 * CODES, run_part: longer_strings },
+    Kind { name: "lines of every last byte, of codes that read 20 bits", quick_parts: CODES, all_parts: CODES, run_part: last_bytes },
     Kind { name: "lines with too little room or too much", quick_parts: CODES, all_parts: CODES, run_part: rooms },
 ];
 
@@ -59,6 +60,9 @@ fn line(image: &[u8], at: usize, rust: &[u32]) -> String {
     }
     for (k, field) in OPERANDS.into_iter().enumerate().filter(|(_, field)| record[*field] != 0) {
         text += &format!(" {}", with_number(oracle::OPERAND_NAMES[record[field] as usize], number_of(&record, k)));
+    }
+    if record[DROPPED] != 0 {
+        text += " !";
     }
     text
 }
@@ -114,6 +118,13 @@ fn longer_strings(part: usize, tally: &mut Tally) {
         image.extend([first, second]);
         image.extend((0..6).map(|_| random.byte()));
         compare(tally, &image, at, c::LONGEST_LINE);
+    }
+}
+
+/// A part is a code.
+fn last_bytes(part: usize, tally: &mut Tally) {
+    for string in twenty_bit_strings(part) {
+        compare(tally, &string, 0, c::LONGEST_LINE);
     }
 }
 

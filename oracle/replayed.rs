@@ -5,7 +5,7 @@ use crate::encoder::{self, WIDE_ROOM};
 use crate::sweeps::{self, Swept, NO_START};
 use crate::numbers as asked;
 use crate::{hex, ported, Kind, Tally, FIELDS};
-use crate::{DISPABS, FIRST, IMM_WIDE, LENGTH, MARKED, OPCODE, OPERANDS, SIZE, TAKEN, WIDTH};
+use crate::{DISPABS, DROPPED, FIRST, IMM_WIDE, LENGTH, MARKED, OPCODE, OPERANDS, SIZE, TAKEN, WIDTH};
 
 #[rustfmt::skip]
 pub const KINDS: &[Kind] = &[
@@ -60,7 +60,7 @@ fn strings(_part: usize, tally: &mut Tally) {
         let string = bytes(string, number(count));
         let mut port = ported(&string, 0);
         // What the Rust does not have is not stored.
-        for free in [WIDTH, FIRST, MARKED] {
+        for free in [WIDTH, FIRST, MARKED, DROPPED] {
             port.fields[free] = 0;
         }
         let same = port.refusal == number(refusal) && port.fields == wanted;
@@ -74,7 +74,7 @@ fn strings(_part: usize, tally: &mut Tally) {
 fn record(names: &str, imm_wide: &str, fields: &str) -> [u32; FIELDS] {
     let [opcode, size, width, op0, op1, op2] = numbers(&names[1..], [2, 1, 1, 2, 2, 2]);
     let [dispabs, first] = numbers(fields, [4, 4]);
-    [0, opcode, size, width, op0, op1, op2, number(imm_wide), dispabs, first, 0, 0]
+    [0, opcode, size, width, op0, op1, op2, number(imm_wide), dispabs, first, 0, 0, 0]
 }
 
 fn records(_part: usize, tally: &mut Tally) {

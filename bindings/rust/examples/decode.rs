@@ -15,6 +15,9 @@ fn main() -> Result<(), Box<dyn std::error::Error>> {
     if instruction.opcode == Opcode::STE && instruction.operands[..2] == [OperandSpec::Abs16, OperandSpec::Abs20] {
         println!("STE from address {:04X} to address {:05X}", instruction.dispabs, instruction.imm_wide);
     }
+    if instruction.dropped {
+        println!("of the address's three bytes four bits were dropped, and were not zero");
+    }
     println!("{}", line(&LOCAL, 0)?);
     show_operands(&decode(&LOCAL, 0)?);
     // The image ends inside the instruction.
