@@ -102,11 +102,7 @@ pub const BEGIN: Seen = Seen {
 pub fn begin(number: u32) -> Seen
     ensures { λ r. ⌜ r ≡ begun number ⌝ }
 {
-    Seen {
-        imm_wide: number,
-        dispabs: 0,
-        first: 0,
-        dropped: false,
-        taken: 2,
-    }
+    let mut s = BEGIN;
+    s.imm_wide = number;
+    s
 }
