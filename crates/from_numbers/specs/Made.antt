@@ -42,6 +42,6 @@ madeOf ns = record {
   dropped = false;
 }
 
--- numbers that make no record make the blank one, which has no operand and which no bytes encode; those behind the twelfth do not count
+-- numbers that make no record make the blank one, which has no operand and which no bytes encode
 abbrev pub recordOf : List ℕ → Record
 recordOf ns = pick (valid ns) (madeOf ns) blank

@@ -10,11 +10,10 @@ use lib.IntN.{ℤ, natAbs}
 use lib.ListN.{length, take-append-drop}
 use Rattle.record.specs.declared.Record.{Record}
 use Rattle.record.specs.declared.Size.{Size}
-use Rattle.record.specs.declared.Size.the-variants as size
 use Rattle.record.specs.declared.Width.{Width}
-use Rattle.record.specs.declared.Width.the-variants as width
 use Rattle.record.specs.declared.Operand.{Operand}
 use Rattle.record.specs.Signed.{isSigned, numberAt}
+use Rattle.record.proofs.Arms.{every-size, every-width}
 use Rattle.line.specs.Characters.{spelled}
 use Rattle.line.specs.Line.{widthText, opcodeText, sizeText, shown, digitsOf, numberText, operandText, droppedText, fromWidth, lineOf, endText, refusedText}
 use Rattle.line.specs.steps.Packed.{pack, text, firstEight, afterEight, placeText, lengthText, parts, endParts, refusedParts}
@@ -22,15 +21,10 @@ use Rattle.line.proofs.Unpacked.{wordy, wordy-hex, wordy-digits, wordy-
 use Rattle.line.proofs.Spelling.{opcode-wordy, first-wordy, after-wordy, digits-few}
 
 width-wordy : (w : Width) → T (wordy 8 (widthText w))
-width-wordy width.None = tt
-width-wordy width.B = tt
-width-wordy width.W = tt
+width-wordy = every-width (λ w. wordy 8 (widthText w)) tt
 
 size-wordy : (s : Size) → T (wordy 8 (sizeText s))
-size-wordy size.None = tt
-size-wordy size.B = tt
-size-wordy size.W = tt
-size-wordy size.L = tt
+size-wordy = every-size (λ s. wordy 8 (sizeText s)) tt
 
 number-wordy : (a : Operand) (n : ℤ) → T (wordy 8 (numberText a n))
 unfolding numberText

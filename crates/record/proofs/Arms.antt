@@ -7,7 +7,7 @@ use mathlib.Core.List.{List, [], _∷_}
 use mathlib.Core.Logic.{inl, inr}
 use native.Mathlib.Omega.{arith}
 use lib.Dec.{T, eqb}
-use lib.ListN.{length, getD}
+use lib.ListN.{length, getD, drop}
 use types.Run.{OneOf}
 use denote.Enum.Declared.{tagOf}
 use borrow.Author.Tests.{eqb-true, eq-eqb}
@@ -16,13 +16,17 @@ use Rattle.laws.specs.Table.{every}
 use Rattle.laws.proofs.Choice.{both-left, both-right}
 use Rattle.record.specs.declared.Opcode.{Opcode}
 use Rattle.record.specs.declared.Opcode.the-variants.{NOP}
+use Rattle.record.specs.declared.Size.{Size}
+use Rattle.record.specs.declared.Size.the-variants as size
+use Rattle.record.specs.declared.Width.{Width}
+use Rattle.record.specs.declared.Width.the-variants as width
 use Rattle.record.specs.declared.Operand.{Operand}
 use Rattle.record.specs.declared.Operand.the-variants.{Nothing}
-use Rattle.record.specs.Numbers.{opcodeNo, operandNo}
-use Rattle.record.specs.Names.{opcodes, operands}
+use Rattle.record.specs.Numbers.{opcodeNo, sizeNo, widthNo, operandNo}
+use Rattle.record.specs.Names.{opcodes, sizes, widths, operands}
 use Rattle.record.proofs.Opcode as opcode
 use Rattle.record.proofs.Operand.{the-type}
-use Rattle.record.proofs.At.{opcode-at, operand-at}
+use Rattle.record.proofs.At.{opcode-at, size-at, width-at, operand-at}
 use Rattle.record.proofs.Apart.{operands-apart}
 
 -- one of some numbers, as a test
@@ -73,11 +77,21 @@ module _ {E : Type 0} (f : E → Bool) (d : E) where
   at-any (e ∷ es) i u t zero = both-left (f e) (every (λ i e. f e) (suc i) es) t
   at-any (e ∷ es) i u t (suc k) = at-any es (suc i) u (both-right (f e) (every (λ i e. f e) (suc i) es) t) k
 
+every-name : {E : Type 0} (number : E → ℕ) (d : E) (ds : List E) → ((e : E) → getD (d ∷ ds) (number e) d ≡ e)
+    → (f : E → Bool) → T (every (λ i e. f e) 0 (d ∷ ds)) → (e : E) → T (f e)
+every-name number d ds found f t e = subst (λ e. T (f e)) (found e) (at-any f d (d ∷ ds) 0 (both-left (f d) _ t) t (number e))
+
 pub every-operand : (f : Operand → Bool) → T (every (λ i o. f o) 0 operands) → (o : Operand) → T (f o)
-every-operand f t o = subst (λ o. T (f o)) (operand-at o) (at-any f Nothing operands 0 (both-left (f Nothing) _ t) t (operandNo o))
+every-operand = every-name operandNo Nothing (drop 1 operands) operand-at
 
 pub every-opcode : (f : Opcode → Bool) → T (every (λ i o. f o) 0 opcodes) → (o : Opcode) → T (f o)
-every-opcode f t o = subst (λ o. T (f o)) (opcode-at o) (at-any f NOP opcodes 0 (both-left (f NOP) _ t) t (opcodeNo o))
+every-opcode = every-name opcodeNo NOP (drop 1 opcodes) opcode-at
+
+pub every-size : (f : Size → Bool) → T (every (λ i s. f s) 0 sizes) → (s : Size) → T (f s)
+every-size = every-name sizeNo size.None (drop 1 sizes) size-at
+
+pub every-width : (f : Width → Bool) → T (every (λ i w. f w) 0 widths) → (w : Width) → T (f w)
+every-width = every-name widthNo width.None (drop 1 widths) width-at
 
 yes : (x : Bool) → T x → x ≡ true
 yes true t = refl

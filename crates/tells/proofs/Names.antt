@@ -8,14 +8,12 @@ use lib.Dec.{T, eqb, eqb→eq}
 use Rattle.laws.specs.Choice.{pick}
 use Rattle.record.specs.declared.Opcode.{Opcode}
 use Rattle.record.specs.declared.Size.{Size}
-use Rattle.record.specs.declared.Size.the-variants as size
 use Rattle.record.specs.declared.Width.{Width}
-use Rattle.record.specs.declared.Width.the-variants as width
 use Rattle.record.specs.declared.Operand.{Operand}
 use Rattle.record.specs.Numbers.{opcodeNo, sizeNo, widthNo, operandNo}
 use Rattle.record.specs.Names.{opcodes, sizes, widths, operands}
 use Rattle.record.proofs.Apart.{opcodes-apart, sizes-apart, widths-apart, operands-apart}
-use Rattle.record.proofs.Arms.{every-opcode, every-operand, bit, bits-apart}
+use Rattle.record.proofs.Arms.{every-opcode, every-size, every-width, every-operand, bit, bits-apart}
 use Rattle.line.specs.Characters.{spelled}
 use Rattle.line.specs.Names.{opcodeName, operandName}
 use Rattle.line.specs.Line.{widthText, sizeText, droppedText}
@@ -37,10 +35,7 @@ operand-free = every-operand (λ a. free marks (operandName a)) tt
 
 -- and a size has no space
 pub size-free : (s : Size) → T (free (spelled " ") (sizeText s))
-size-free size.None = tt
-size-free size.B = tt
-size-free size.W = tt
-size-free size.L = tt
+size-free = every-size (λ s. free (spelled " ") (sizeText s)) tt
 
 -- how many numbers of a list stand before n
 abbrev before : ℕ → List ℕ → ℕ
@@ -68,21 +63,10 @@ unfolding operandName
 operand-told = by-text operandNo operandName operands operands-apart (every-operand (itself operandNo operandName operands) tt)
 
 pub size-told : (a b : Size) → sizeText a ≡ sizeText b → a ≡ b
-size-told = by-text sizeNo sizeText sizes sizes-apart each
-  where
-    each : (s : Size) → T (itself sizeNo sizeText sizes s)
-    each size.None = tt
-    each size.B = tt
-    each size.W = tt
-    each size.L = tt
+size-told = by-text sizeNo sizeText sizes sizes-apart (every-size (itself sizeNo sizeText sizes) tt)
 
 pub width-told : (a b : Width) → widthText a ≡ widthText b → a ≡ b
-width-told = by-text widthNo widthText widths widths-apart each
-  where
-    each : (w : Width) → T (itself widthNo widthText widths w)
-    each width.None = tt
-    each width.B = tt
-    each width.W = tt
+width-told = by-text widthNo widthText widths widths-apart (every-width (itself widthNo widthText widths) tt)
 
 -- ` !` or nothing
 pub dropped-told : (a b : Bool) → droppedText a ≡ droppedText b → a ≡ b
