@@ -3,6 +3,7 @@
 //        bench time    prints a line a measurement: label, units, nanoseconds
 
 #[path = "../bindings/rust/src/c.rs"]
+#[allow(dead_code)] // both sweeps go by the type of one
 mod c;
 
 use std::env;
@@ -10,7 +11,7 @@ use std::hint::black_box;
 use std::process::ExitCode;
 use std::time::Instant;
 
-use c::{m16c_decode, m16c_encode, m16c_line, m16c_operand_number, m16c_sweep};
+use c::{m16c_decode, m16c_encode, m16c_line, m16c_operand_number, m16c_sweep, m16c_sweep_stopping};
 use c::{Decode, Encode, Line, OperandNumber, Sweep};
 use c::{LONGEST_IMAGE, LONGEST_INSTRUCTION, LONGEST_LINE};
 use peer_call::{at_each, nothing_decoded, nothing_encoded, rust_decode, Record, NUMBERS};
@@ -20,6 +21,7 @@ use peer_sweep_loop::rust_sweep as rust_sweep_loop;
 
 const FIRST_BYTES: [u8; 12] = [0x74, 0x75, 0x76, 0x77, 0x78, 0x79, 0x7A, 0x7B, 0x7C, 0x7D, 0x7E, 0xEB];
 const IMAGE_INSTRUCTIONS: usize = 4000;
+const RANDOM_PIECES: usize = 4;
 const SEED: u64 = 0x9E37_79B9_7F4A_7C15;
 
 // The operand whose number is asked for.
@@ -40,6 +42,8 @@ struct Workload {
     image: Vec<u8>,
     places: Vec<u32>,
     records: Vec<Record>,
+    /// Whether decoding refuses at some of the places.
+    refuses: bool,
     /// The image cut at places, as long as a sweep takes; none if the places leave something out.
     pieces: Vec<Vec<u8>>,
 }
@@ -52,6 +56,7 @@ struct Out {
     starts: Vec<u16>,
     count: usize,
     stop: usize,
+    refused: usize,
     line: [u8; LONGEST_LINE],
     number: i64,
 }
@@ -64,9 +69,9 @@ struct Way {
 
 struct Task {
     name: &'static str,
-    /// Which records of a workload it is measured on, and whether only where they are the whole image.
+    /// Which workloads it is measured on, and at which of their records.
+    works: fn(&Workload) -> bool,
     takes: fn(&Record) -> bool,
-    whole_images: bool,
     ways: &'static [Way],
 }
 
@@ -74,8 +79,8 @@ struct Task {
 const TASKS: &[Task] = &[
     Task {
         name: "decode",
+        works: is_accepted,
         takes: |_| true,
-        whole_images: false,
         ways: &[
             Way { name: "empty_loop", run: |work, out| at_each(places(work), &mut out.record, |_, _| ()) },
             Way { name: "empty_call", run: |work, out| decode_each(nothing_decoded, work, out) },
@@ -86,8 +91,8 @@ const TASKS: &[Task] = &[
     },
     Task {
         name: "encode",
+        works: is_accepted,
         takes: |record| record[MARKED] == 0,
-        whole_images: false,
         ways: &[
             Way { name: "empty_loop", run: |work, out| at_each(work.records.iter(), out, |_, _| ()) },
             Way { name: "empty_call", run: |work, out| encode_each(nothing_encoded, work, out) },
@@ -98,8 +103,8 @@ const TASKS: &[Task] = &[
     },
     Task {
         name: "sweep",
+        works: is_whole,
         takes: |_| true,
-        whole_images: true,
         ways: &[
             Way { name: "empty_loop", run: |work, out| at_each(work.pieces.iter(), out, |_, _| ()) },
             Way { name: "rattle", run: |work, out| sweep_each(m16c_sweep, work, out) },
@@ -108,9 +113,18 @@ const TASKS: &[Task] = &[
         ],
     },
     Task {
-        name: "line",
+        name: "sweep_stopping",
+        works: |work| is_whole(work) && is_accepted(work),
         takes: |_| true,
-        whole_images: false,
+        ways: &[
+            Way { name: "empty_loop", run: |work, out| at_each(work.pieces.iter(), out, |_, _| ()) },
+            Way { name: "rattle", run: |work, out| sweep_each(m16c_sweep_stopping, work, out) },
+        ],
+    },
+    Task {
+        name: "line",
+        works: is_accepted,
+        takes: |_| true,
         ways: &[
             Way { name: "empty_loop", run: |work, out| at_each(places(work), out, |_, _| ()) },
             Way { name: "rattle", run: |work, out| list_each(m16c_line, work, out) },
@@ -118,14 +132,22 @@ const TASKS: &[Task] = &[
     },
     Task {
         name: "operand_number",
+        works: is_accepted,
         takes: |_| true,
-        whole_images: false,
         ways: &[
             Way { name: "empty_loop", run: |work, out| at_each(work.records.iter(), out, |_, _| ()) },
             Way { name: "rattle", run: |work, out| ask_each(m16c_operand_number, work, out) },
         ],
     },
 ];
+
+fn is_accepted(work: &Workload) -> bool {
+    !work.refuses
+}
+
+fn is_whole(work: &Workload) -> bool {
+    !work.pieces.is_empty()
+}
 
 fn places(work: &Workload) -> impl Iterator<Item = u32> + '_ {
     work.places.iter().copied()
@@ -152,7 +174,8 @@ fn encode_each(encode: Encode, work: &Workload, out: &mut Out) {
 fn sweep_each(sweep: Sweep, work: &Workload, out: &mut Out) {
     at_each(work.pieces.iter(), out, |piece, out| {
         let (from, to) = (piece.as_ptr(), out.starts.as_mut_ptr());
-        unsafe { sweep(from, piece.len(), to, out.starts.len(), &mut out.count, &mut out.stop) };
+        let room = out.starts.len();
+        unsafe { sweep(from, piece.len(), to, room, &mut out.count, &mut out.stop, &mut out.refused) };
     });
 }
 
@@ -187,7 +210,7 @@ fn main() -> ExitCode {
         return ExitCode::FAILURE;
     }
     for task in TASKS {
-        for work in workloads.iter().filter(|work| !task.whole_images || !work.pieces.is_empty()) {
+        for work in workloads.iter().filter(|work| (task.works)(work)) {
             let work = only(work, task.takes);
             for way in task.ways {
                 measure(&format!("{}.{}.{}", task.name, work.name, way.name), way, &work);
@@ -200,7 +223,7 @@ fn main() -> ExitCode {
 fn workloads() -> Vec<Workload> {
     let image = image_workload();
     let single: Vec<Workload> = FIRST_BYTES.iter().map(|first| only_first_byte(&image, *first)).collect();
-    [image, codes_workload()].into_iter().chain(single).collect()
+    [image, codes_workload(), random_workload()].into_iter().chain(single).collect()
 }
 
 /// First bytes evenly, then an accepted code, then operand bytes at random.
@@ -221,6 +244,28 @@ fn codes_workload() -> Workload {
     assemble("codes", &every, &mut Random(SEED))
 }
 
+/// Bytes at random, most of them refused, for sweeps that go on; the places are those at which they decode.
+fn random_workload() -> Workload {
+    let mut random = Random(SEED);
+    let mut piece = || -> Vec<u8> { (0..LONGEST_IMAGE).map(|_| random.byte()).collect() };
+    let pieces: Vec<Vec<u8>> = (0..RANDOM_PIECES).map(|_| piece()).collect();
+    let begins = (0..).step_by(LONGEST_IMAGE);
+    let in_image = |(begin, piece): (usize, &Vec<u8>)| visited(piece).into_iter().map(move |(place, _)| begin + place);
+    let places = begins.zip(&pieces).flat_map(in_image).map(|place| place as u32).collect();
+    workload("random".to_string(), pieces.concat(), places, pieces)
+}
+
+/// The places at which a sweep of a piece decodes if it goes on, and the Rust's refusals there.
+fn visited(piece: &[u8]) -> Vec<(usize, u8)> {
+    let (mut visited, mut place) = (Vec::new(), 0);
+    while place < piece.len() {
+        let answer = oracle::answer(&piece[place..]);
+        visited.push((place, answer.refusal));
+        place += if answer.refusal == oracle::ACCEPTED { answer.taken } else { 1 };
+    }
+    visited
+}
+
 fn only_first_byte(work: &Workload, first: u8) -> Workload {
     let starts_here = |place: &u32| work.image[*place as usize] == first;
     let places = work.places.iter().copied().filter(starts_here).collect();
@@ -234,8 +279,10 @@ fn only(work: &Workload, wanted: fn(&Record) -> bool) -> Workload {
 }
 
 fn workload(name: String, image: Vec<u8>, places: Vec<u32>, pieces: Vec<Vec<u8>>) -> Workload {
-    let records = places.iter().map(|place| called(m16c_decode, &image, *place).1).collect();
-    Workload { name, image, places, records, pieces }
+    let answers = places.iter().map(|place| called(m16c_decode, &image, *place));
+    let (refusals, records): (Vec<u32>, Vec<Record>) = answers.unzip();
+    let refuses = refusals.iter().any(|refusal| *refusal != 0);
+    Workload { name, image, places, records, refuses, pieces }
 }
 
 fn assemble(name: &str, codes: &[(u8, u8)], random: &mut Random) -> Workload {
@@ -297,9 +344,11 @@ impl Random {
 // A way that did less would be measured for less.
 fn check_same_work(work: &Workload) -> Result<(), String> {
     work.places.iter().try_for_each(|place| check_decoding(work, *place))?;
-    work.places.iter().try_for_each(|place| check_line(work, *place))?;
-    work.records.iter().try_for_each(|record| check_encoding(record))?;
-    work.records.iter().try_for_each(|record| check_number(record))?;
+    if is_accepted(work) {
+        work.places.iter().try_for_each(|place| check_line(work, *place))?;
+        work.records.iter().try_for_each(|record| check_encoding(record))?;
+        work.records.iter().try_for_each(|record| check_number(record))?;
+    }
     work.pieces.iter().try_for_each(|piece| check_sweeping(piece))
 }
 
@@ -365,22 +414,55 @@ fn check_number(record: &Record) -> Result<(), String> {
     Ok(())
 }
 
-/// All sweep a piece to its end, over the same starts.
+/// What a sweep leaves.
+#[derive(Debug, PartialEq)]
+struct Swept {
+    refusal: u32,
+    count: usize,
+    place: usize,
+    refused: usize,
+    starts: Vec<u16>,
+}
+
+// What stands in the starts before.
+const UNTOUCHED: u16 = u16::MAX;
+
+/// All that go on sweep a piece to its end, over the same starts; the stopping sweep ends at the first refusal.
 fn check_sweeping(piece: &[u8]) -> Result<(), String> {
-    let rattle = swept(m16c_sweep, piece);
-    let rust = [rust_sweep_call, rust_sweep_loop].map(|sweep| swept(sweep, piece));
-    let (refusal, _, stop, _) = rattle;
-    if rust.iter().any(|rust| *rust != rattle) || refusal != 0 || stop != piece.len() {
-        return Err(format!("different sweeps of {piece:X?}\nrattle {rattle:?}\nrust {rust:?}"));
+    let visited = visited(piece);
+    let end = (piece.len(), oracle::ACCEPTED);
+    let first_refused = visited.iter().position(|(_, refusal)| *refusal != oracle::ACCEPTED);
+    let (before, stop) = first_refused.map_or((visited.as_slice(), end), |k| (&visited[..k], visited[k]));
+    let going_on = swept_so(piece, &visited, end);
+    check_swept("rattle", m16c_sweep, piece, &going_on)?;
+    check_swept("rust, call", rust_sweep_call, piece, &going_on)?;
+    check_swept("rust, loop", rust_sweep_loop, piece, &going_on)?;
+    check_swept("rattle, stopping", m16c_sweep_stopping, piece, &swept_so(piece, before, stop))
+}
+
+fn check_swept(name: &str, sweep: Sweep, piece: &[u8], expected: &Swept) -> Result<(), String> {
+    let found = swept(sweep, piece);
+    if found != *expected {
+        return Err(format!("different sweeps of {piece:X?}\n{name} {found:?}\nby decodings {expected:?}"));
     }
     Ok(())
 }
 
-fn swept(sweep: Sweep, piece: &[u8]) -> (u32, usize, usize, Vec<u16>) {
-    let (mut count, mut stop, mut starts) = (0, 0, vec![u16::MAX; piece.len()]);
-    let refusal =
-        unsafe { sweep(piece.as_ptr(), piece.len(), starts.as_mut_ptr(), starts.len(), &mut count, &mut stop) };
-    (refusal, count, stop, starts)
+/// What a sweep leaves that passes these places, and ends at a place with a refusal.
+fn swept_so(piece: &[u8], passed: &[(usize, u8)], (place, refusal): (usize, u8)) -> Swept {
+    let accepted = passed.iter().filter(|(_, refusal)| *refusal == oracle::ACCEPTED);
+    let mut starts: Vec<u16> = accepted.map(|(place, _)| *place as u16).collect();
+    let count = starts.len();
+    starts.resize(piece.len(), UNTOUCHED);
+    Swept { refusal: refusal.into(), count, place, refused: passed.len() - count, starts }
+}
+
+fn swept(sweep: Sweep, piece: &[u8]) -> Swept {
+    let (mut count, mut place, mut refused) = (usize::MAX, usize::MAX, usize::MAX);
+    let mut starts = vec![UNTOUCHED; piece.len()];
+    let (to, room) = (starts.as_mut_ptr(), starts.len());
+    let refusal = unsafe { sweep(piece.as_ptr(), piece.len(), to, room, &mut count, &mut place, &mut refused) };
+    Swept { refusal, count, place, refused, starts }
 }
 
 fn called(decode: Decode, image: &[u8], place: u32) -> (u32, Record) {
@@ -398,6 +480,7 @@ fn new_out() -> Out {
         starts: vec![0; LONGEST_IMAGE],
         count: 0,
         stop: 0,
+        refused: 0,
         line: [0; LONGEST_LINE],
         number: 0,
     }

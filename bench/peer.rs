@@ -92,7 +92,7 @@ const IMAGE_TOO_LONG: u32 = 7;
 /// The parameters and the answer of the port's `m16c_sweep`.
 ///
 /// # Safety
-/// `image` has `image_len` bytes to read, `starts` has `starts_len` numbers to write, `count` and `place` are to be written.
+/// `image` has `image_len` bytes to read, `starts` has `starts_len` numbers to write, `count`, `place` and `refused` are to be written.
 #[cfg(any(peer = "sweep_call", peer = "sweep_loop", peer = "both"))]
 #[cfg_attr(any(peer = "sweep_call", peer = "both"), export_name = "rust_sweep_call")]
 #[cfg_attr(peer = "sweep_loop", export_name = "rust_sweep_loop")]
@@ -104,35 +104,46 @@ pub unsafe extern "C" fn rust_sweep(
     starts_len: usize,
     count: *mut usize,
     place: *mut usize,
+    refused: *mut usize,
 ) -> u32 {
     let image = core::slice::from_raw_parts(image, image_len);
-    let (refusal, starts_kept, stop) = repeat(image, core::slice::from_raw_parts_mut(starts, starts_len));
-    *count = starts_kept;
-    *place = stop;
-    refusal
+    let swept = repeat(image, core::slice::from_raw_parts_mut(starts, starts_len));
+    *count = swept.count;
+    *place = swept.place;
+    *refused = swept.refused;
+    swept.refusal
 }
 
-// The refusal, the count and the stopping place.
+struct Swept {
+    refusal: u32,
+    count: usize,
+    place: usize,
+    refused: usize,
+}
+
+// A refused place is counted, and passed by one byte.
 #[inline(always)]
-fn repeat(image: &[u8], starts: &mut [u16]) -> (u32, usize, usize) {
+fn repeat(image: &[u8], starts: &mut [u16]) -> Swept {
+    let mut swept = Swept { refusal: u32::from(ACCEPTED), count: 0, place: 0, refused: 0 };
     if image.len() > LONGEST_IMAGE {
-        return (IMAGE_TOO_LONG, 0, 0);
+        return Swept { refusal: IMAGE_TOO_LONG, ..swept };
     }
     if starts.len() < image.len() {
-        return (TOO_LITTLE_ROOM, 0, 0);
+        return Swept { refusal: TOO_LITTLE_ROOM, ..swept };
     }
-    let (mut count, mut place) = (0, 0);
-    while place < image.len() {
+    while swept.place < image.len() {
         let mut inst = fresh();
-        let (refusal, taken) = decode_once(&image[place..], &mut inst);
-        if refusal != ACCEPTED {
-            return (u32::from(refusal), count, place);
+        let (refusal, taken) = decode_once(&image[swept.place..], &mut inst);
+        if refusal == ACCEPTED {
+            starts[swept.count] = swept.place as u16;
+            swept.count += 1;
+            swept.place += taken;
+        } else {
+            swept.refused += 1;
+            swept.place += 1;
         }
-        starts[count] = place as u16;
-        count += 1;
-        place += taken;
     }
-    (u32::from(ACCEPTED), count, place)
+    swept
 }
 
 // In the loop the compiler may drop what a sweep has no use for; behind a call the whole record is made, as the port's is.

@@ -10,15 +10,24 @@ static uint8_t image[] = {
     0x77, 0x40, 0x0A, 0x00, /* ADD.W #10, R0 */
     0x77, 0x80, 0xE8, 0x03, /* CMP.W #1000, R0 */
     0x7D, 0xC8, 0xF6, /* JLE, back to the ADD */
+    0x00, 0x40, /* data, which a sweep passes */
     0x75, 0xC8, 0x34, 0x01, 0x00, /* MOV.W #1, 34H[A0] */
     0x75, 0xCC, 0x34, 0x00, 0x02, 0x00 /* MOV.W #2, 34H[A0], with a displacement longer than it needs to be */
 };
 
+static uint16_t starts[sizeof image];
+
+/* Finds the starts of the instructions, and returns how many there are. */
+static size_t sweep(void)
+{
+    size_t count, end, refused;
+    m16c_sweep(image, sizeof image, starts, sizeof image, &count, &end, &refused);
+    return count;
+}
+
 static void list(void)
 {
-    uint16_t starts[sizeof image];
-    size_t count, stop;
-    m16c_sweep(image, sizeof image, starts, sizeof image, &count, &stop);
+    size_t count = sweep();
     for (size_t k = 0; k < count; k++) {
         uint8_t line[M16C_LONGEST_LINE];
         size_t length;
@@ -30,9 +39,13 @@ static void list(void)
 /* The place of the first instruction with an opcode and an immediate, and its record; 0 if there is none. */
 static int find(uint32_t opcode, uint32_t immediate, size_t *place, uint32_t *record)
 {
-    for (*place = 0; m16c_decode(image, sizeof image, *place, record, M16C_NUMBERS) == M16C_ACCEPTED; *place += record[M16C_LENGTH])
+    size_t count = sweep();
+    for (size_t k = 0; k < count; k++) {
+        *place = starts[k];
+        m16c_decode(image, sizeof image, *place, record, M16C_NUMBERS);
         if (record[M16C_OPCODE] == opcode && record[M16C_OP0] == M16C_OPERAND_IMM16 && record[M16C_IMM_WIDE] == immediate)
             return 1;
+    }
     return 0;
 }
 

@@ -249,9 +249,13 @@ uint32_t m16c_decode(const uint8_t *image, size_t image_length, size_t at, uint3
  * count, nor what stands behind. Returns 0 and leaves the number of bytes written, or 5 or 6 with 0 and the buffer as it was. */
 uint32_t m16c_encode(const uint32_t *numbers, size_t numbers_length, uint8_t *buf, size_t buf_length, size_t place, size_t *bytes_written);
 
-/* The starts of an image's instructions, from 0 to its end or the first refusal. Returns that refusal, 0 at the end, or 7 or 6, and
- * leaves how many starts were kept and where decoding stopped. */
-uint32_t m16c_sweep(const uint8_t *image, size_t image_length, uint16_t *starts, size_t starts_length, size_t *count, size_t *place);
+/* The starts of an image's instructions, to its end: a refused place is counted, and the next byte decoded. Returns 0, and leaves how many
+ * starts were kept, the image's length and how many places were refused; or returns 7 or 6, and leaves 0 and the starts as they were. */
+uint32_t m16c_sweep(const uint8_t *image, size_t image_length, uint16_t *starts, size_t starts_length, size_t *count, size_t *place, size_t *refused);
+
+/* The starts of an image's instructions, to its end or the first refusal. Returns that refusal, 0 at the end, and leaves how many starts
+ * were kept, where decoding stopped, and 0 for refused; or returns 7 or 6, and leaves 0 and the starts as they were. */
+uint32_t m16c_sweep_stopping(const uint8_t *image, size_t image_length, uint16_t *starts, size_t starts_length, size_t *count, size_t *place, size_t *refused);
 
 /* The listing's line of the instruction at a place of an image, without a newline, over the first bytes of a buffer. Returns 0 and leaves
  * the line's length; or decoding's refusal, or 6 where the line has no room, with length 0 and the buffer as it was. */

@@ -356,10 +356,19 @@ impl Random {
 
     /// Without the bytes behind the instruction, so that every cut takes something away.
     fn accepted_string(&mut self) -> Vec<u8> {
+        self.taken_string(|refusal| refusal == oracle::ACCEPTED)
+    }
+
+    /// With all the bytes that decoding took before it refused.
+    fn refused_string(&mut self) -> Vec<u8> {
+        self.taken_string(|refusal| refusal != oracle::ACCEPTED)
+    }
+
+    fn taken_string(&mut self, wanted: fn(u8) -> bool) -> Vec<u8> {
         loop {
             let mut string = self.string();
             let answer = oracle::answer(&string);
-            if answer.refusal == oracle::ACCEPTED {
+            if wanted(answer.refusal) {
                 string.truncate(answer.taken);
                 return string;
             }

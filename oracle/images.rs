@@ -1,4 +1,6 @@
-// Images of up to sixteen bytes for the stored list, each with what sweeping it gives: the oracle asked again and again.
+// Images of up to sixteen bytes for the stored list, each with what sweeping it by a rule gives: the oracle asked again and again.
+
+use std::collections::BTreeSet;
 
 use oracle::answer;
 
@@ -12,9 +14,27 @@ const RULES_IMAGE: [u8; 14] = [0x74, 0x0F, 0x34, 0x12, 0x89, 0x67, 0xF5, 0x7D, 0
 // Every so many strings of the stored list give an instruction, so that neighbours in an image are not alike.
 const STEP: usize = 23;
 
+// And of the codes that are refused every so many.
+const REFUSED_STEP: usize = 7;
+
+// Put in among instructions: one that begins none, and three that take the bytes behind them.
+const DATA_BYTES: [u8; 4] = [0x04, 0x74, 0x7C, 0xEB];
+
+// Refused with 2, 3, 3, 2, 1 and 1. In the last four the refused place took bytes of the instruction behind it.
+const REFUSED_BEFORE_INT: [&[u8]; 6] =
+    [&[0x7C, 0x7F], &[0x74, 0x63], &[0x78, 0x83], &[0x7E, 0x20], &[0x74, 0x0F], &[0x74, 0x0F, 0x34]];
+const INT: [u8; 2] = [0xEB, 0xC5];
+
+const RANDOM_IMAGES: usize = 32;
+
+/// Stopping sweeps; then, of the same images and of more, sweeps that go on.
 pub fn list(strings: &[Vec<u8>]) -> String {
     let cuts = (0..=RULES_IMAGE.len()).map(|length| RULES_IMAGE[..length].to_vec());
-    cuts.chain(made_of(strings)).map(|image| stored_line(&image)).collect()
+    let images: Vec<Vec<u8>> = cuts.chain(made_of(strings)).collect();
+    let stopping: String = images.iter().map(|image| stopping_line(image)).collect();
+    let mut listed = BTreeSet::new();
+    let all = images.into_iter().chain(mixed(strings)).filter(|image| listed.insert(image.clone()));
+    stopping + &all.map(|image| going_on_line(&image)).collect::<String>()
 }
 
 /// Images of whole instructions, each also with a byte cut off.
@@ -32,20 +52,91 @@ fn made_of(strings: &[Vec<u8>]) -> Vec<Vec<u8>> {
     images
 }
 
+/// Images in which refused places stand between instructions, or nothing else stands.
+fn mixed(strings: &[Vec<u8>]) -> Vec<Vec<u8>> {
+    let firsts: Vec<u8> = (0..=0xFF).filter(|byte| answer(&[*byte]).refusal != oracle::FIRST_BYTE_OUTSIDE).collect();
+    let mut images = vec![vec![0x04; MOST_BYTES], vec![0x7C; MOST_BYTES]];
+    images.extend(REFUSED_BEFORE_INT.iter().map(|refused| [refused, &INT[..]].concat()));
+    images.extend(with_a_data_byte());
+    images.extend(behind_refused(strings));
+    images.extend(overlapping(&firsts));
+    images.extend(at_random(&firsts));
+    images
+}
+
+fn with_a_data_byte() -> Vec<Vec<u8>> {
+    let mut images = vec![];
+    for data in DATA_BYTES {
+        for place in 0..=RULES_IMAGE.len() {
+            let (before, behind) = RULES_IMAGE.split_at(place);
+            images.push([before, &[data], behind].concat());
+        }
+    }
+    images
+}
+
+/// The rules' image behind a refused string, of a code one, with all the bytes that it takes.
+fn behind_refused(strings: &[Vec<u8>]) -> Vec<Vec<u8>> {
+    let is_refused = |refusal| matches!(refusal, oracle::INVALID_OPCODE | oracle::INVALID_OPERAND);
+    let strings = strings.iter().filter(|string| is_refused(answer(string).refusal));
+    let mut refused: Vec<&[u8]> = strings.map(|string| &string[..answer(string).taken]).collect();
+    refused.dedup_by_key(|string| [string[0], string[1]]);
+    let behind = |refused: &[u8]| [refused, &RULES_IMAGE[..MOST_BYTES - refused.len()]].concat();
+    refused.into_iter().step_by(REFUSED_STEP).map(behind).collect()
+}
+
+/// Two first bytes that are refused together; C8 05 makes the second an instruction, so one byte on it is found, and two bytes on not.
+fn overlapping(firsts: &[u8]) -> Vec<Vec<u8>> {
+    let (before, behind) = RULES_IMAGE.split_at(8);
+    let pairs = firsts.iter().flat_map(|first| firsts.iter().map(move |second| [*first, *second]));
+    let images = pairs.map(|pair| [&pair, behind, before].concat());
+    images.filter(|image| answer(image).refusal != oracle::ACCEPTED).collect()
+}
+
+/// Half of the bytes are first bytes, so that most places decode. Always the same images.
+fn at_random(firsts: &[u8]) -> Vec<Vec<u8>> {
+    let mut state: u32 = 0;
+    let mut below = |bound: usize| {
+        state = state.wrapping_mul(1_664_525).wrapping_add(1_013_904_223);
+        (state >> 16) as usize % bound
+    };
+    let mut byte = |_| if below(2) == 0 { firsts[below(firsts.len())] } else { below(0x100) as u8 };
+    (0..RANDOM_IMAGES).map(|_| (0..MOST_BYTES).map(&mut byte).collect()).collect()
+}
+
 // README.md describes the fields.
-fn stored_line(image: &[u8]) -> String {
-    let (mut count, mut place, mut refusal, mut starts) = (0, 0, 0, 0);
+fn stopping_line(image: &[u8]) -> String {
+    let (mut place, mut refusal, mut starts) = (0, 0, 0);
     while place < image.len() {
         let answer = answer(&image[place..]);
         refusal = answer.refusal;
         if refusal != oracle::ACCEPTED {
             break;
         }
-        count += 1;
         starts |= 0x8000 >> place;
         place += answer.taken;
     }
+    stored_line('S', image, starts, place, refusal)
+}
+
+fn going_on_line(image: &[u8]) -> String {
+    let (mut place, mut refused, mut starts) = (0, 0, 0);
+    while place < image.len() {
+        let answer = answer(&image[place..]);
+        if answer.refusal == oracle::ACCEPTED {
+            starts |= 0x8000 >> place;
+            place += answer.taken;
+        } else {
+            refused += 1;
+            place += 1;
+        }
+    }
+    stored_line('G', image, starts, refused, oracle::ACCEPTED)
+}
+
+fn stored_line(kind: char, image: &[u8], starts: u16, place_or_refused: usize, refusal: u8) -> String {
     let mut padded = image.to_vec();
     padded.resize(MOST_BYTES, 0);
-    format!("S{:02X}{} {:02X} {:02X} {} {:04X}\n", image.len(), packed_hex(&padded), count, place, refusal, starts)
+    let (length, bytes, count) = (image.len(), packed_hex(&padded), starts.count_ones());
+    format!("{kind}{length:02X}{bytes} {count:02X} {place_or_refused:02X} {refusal} {starts:04X}\n")
 }

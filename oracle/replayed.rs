@@ -2,7 +2,7 @@
 
 use crate::brute::Spelling;
 use crate::encoder::{self, WIDE_ROOM};
-use crate::sweeps::{self, Swept, NO_START};
+use crate::sweeps::{self, Rule, Swept, NO_START};
 use crate::numbers as asked;
 use crate::{hex, ported, Kind, Tally, FIELDS};
 use crate::{DISPABS, DROPPED, FIRST, IMM_WIDE, LENGTH, MARKED, OPCODE, OPERANDS, SIZE, TAKEN, WIDTH};
@@ -11,7 +11,8 @@ use crate::{DISPABS, DROPPED, FIRST, IMM_WIDE, LENGTH, MARKED, OPCODE, OPERANDS,
 pub const KINDS: &[Kind] = &[
     Kind { name: "strings to decode", quick_parts: 1, all_parts: 1, run_part: strings },
     Kind { name: "records to encode", quick_parts: 1, all_parts: 1, run_part: records },
-    Kind { name: "images to sweep", quick_parts: 1, all_parts: 1, run_part: images },
+    Kind { name: "images to sweep, stopping", quick_parts: 1, all_parts: 1, run_part: stopping_sweeps },
+    Kind { name: "images to sweep, going on", quick_parts: 1, all_parts: 1, run_part: sweeps_going_on },
     Kind { name: "operands to ask for", quick_parts: 1, all_parts: 1, run_part: operands },
 ];
 
@@ -88,22 +89,40 @@ fn records(_part: usize, tally: &mut Tally) {
     }
 }
 
-fn images(_part: usize, tally: &mut Tally) {
+fn stopping_sweeps(_part: usize, tally: &mut Tally) {
     for words in lines(|first| first == 'S') {
-        let [image, count, place, refusal, starts] = words[..] else {
-            panic!("a stored image has five words: {words:?}");
-        };
-        let [length] = numbers(&image[1..3], [2]);
-        let image = bytes(&image[3..], length);
-        let is_start = |place: &u16| number(starts) >> (15 - place) & 1 == 1;
-        let mut starts: Vec<u16> = (0..16).filter(is_start).collect();
-        starts.resize(image.len(), NO_START);
-        let wanted = Swept { refusal: number(refusal), count: number(count) as usize, place: number(place) as usize, starts };
-        let port = sweeps::ported(&image, image.len());
-        tally.count(wanted.refusal == 0, port == wanted, || {
-            format!("{}\n  stored {wanted:X?}\n  port   {port:X?}\n", hex(&image))
-        });
+        let (image, [count, place, refusal], starts) = swept(&words);
+        compare_sweep(tally, Rule::Stop, &image, Swept { refusal: refusal as u32, count, place, refused: 0, starts });
     }
+}
+
+/// Where a stopping sweep's line has the place, such a line has how many were refused: its place is the image's end.
+fn sweeps_going_on(_part: usize, tally: &mut Tally) {
+    for words in lines(|first| first == 'G') {
+        let (image, [count, refused, refusal], starts) = swept(&words);
+        let place = image.len();
+        compare_sweep(tally, Rule::GoOn, &image, Swept { refusal: refusal as u32, count, place, refused, starts });
+    }
+}
+
+/// The image of a line, three numbers, and the starts with what stands behind them.
+fn swept(words: &[&str]) -> (Vec<u8>, [usize; 3], Vec<u16>) {
+    let [image, count, place_or_refused, refusal, starts] = words[..] else {
+        panic!("a stored image has five words: {words:?}");
+    };
+    let [length] = numbers(&image[1..3], [2]);
+    let image = bytes(&image[3..], length);
+    let is_start = |place: &u16| number(starts) >> (15 - place) & 1 == 1;
+    let mut starts: Vec<u16> = (0..16).filter(is_start).collect();
+    starts.resize(image.len(), NO_START);
+    (image, [count, place_or_refused, refusal].map(|text| number(text) as usize), starts)
+}
+
+fn compare_sweep(tally: &mut Tally, rule: Rule, image: &[u8], wanted: Swept) {
+    let port = sweeps::ported(rule, image, image.len());
+    tally.count(wanted.refusal == 0, port == wanted, || {
+        format!("{rule:?}, {}\n  stored {wanted:X?}\n  port   {port:X?}\n", hex(image))
+    });
 }
 
 fn operands(_part: usize, tally: &mut Tally) {

@@ -24,7 +24,7 @@ const BEFORE_CONDITION: [u8; 2] = [0x90, 0x7F];
 const BENCH_LINES: [&[u8]; 4] =
     [&[0x74, 0x7E, 0xFF, 0x00], &[0x74, 0x7A, 0xFF], &[0x74, 0x7E, 0x00, 0x01], &[0x7D, 0x0C, 0x10, 0x00, 0x00]];
 
-/// Strings to decode, records to encode, images to sweep, and records with an operand to ask for.
+/// Strings to decode, records to encode, images to sweep by both rules, and records with an operand to ask for.
 pub fn list() -> Result<String, String> {
     let strings: Vec<Vec<u8>> = strings().into_iter().collect();
     let decoded: String = strings.iter().map(|bytes| stored_line(bytes)).collect();

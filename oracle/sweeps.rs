@@ -1,4 +1,4 @@
-// The sweep's part of the differential run: the port's `m16c_sweep` beside the Rust asked again and again.
+// The sweep's part of the differential run: the port's `m16c_sweep` and `m16c_sweep_stopping` beside the Rust asked again and again.
 
 use crate::c::{self, LONGEST_IMAGE};
 use crate::{expected, hex, Kind, Random, Tally, TAKEN, TOO_LITTLE_ROOM};
@@ -10,7 +10,10 @@ pub const KINDS: &[Kind] = &[
     Kind { name: "the rules' image, and its cuts", quick_parts: 1, all_parts: 1, run_part: image_of_the_rules },
     Kind { name: "the stored strings, each and one behind the other", quick_parts: 1, all_parts: 1, run_part: stored_images },
     Kind { name: "images of instructions, one byte damaged or none", quick_parts: 100, all_parts: 1000, run_part: images_of_instructions },
-    Kind { name: "images at random", quick_parts: 100, all_parts: 1000, run_part: random_images },
+    Kind { name: "images of instructions and refused strings", quick_parts: 100, all_parts: 1000, run_part: mixed_images },
+    Kind { name: "images at random, half of them first bytes", quick_parts: 100, all_parts: 1000, run_part: random_images },
+    Kind { name: "images of random bytes", quick_parts: 100, all_parts: 1000, run_part: images_of_random_bytes },
+    Kind { name: "images of one byte, again and again", quick_parts: 256, all_parts: 256, run_part: images_of_one_byte },
     Kind { name: "images about as long as may be, and longer", quick_parts: 50, all_parts: 500, run_part: long_images },
 ];
 
@@ -18,11 +21,19 @@ const IMAGES_IN_A_PART: usize = 20;
 
 // ---- What is compared
 
+/// What becomes of a refused place, by request A1.
+#[derive(Clone, Copy, Debug)]
+pub enum Rule {
+    GoOn,
+    Stop,
+}
+
 #[derive(PartialEq, Eq, Debug)]
 pub struct Swept {
     pub refusal: u32,
     pub count: usize,
     pub place: usize,
+    pub refused: usize,
     pub starts: Vec<u16>,
 }
 
@@ -30,8 +41,8 @@ pub struct Swept {
 pub const NO_START: u16 = 0xDEAD;
 const UNWRITTEN: usize = 0xDEAD_BEEF;
 
-fn repeated(image: &[u8], room: usize) -> Swept {
-    let mut swept = Swept { refusal: 0, count: 0, place: 0, starts: vec![NO_START; room] };
+fn repeated(rule: Rule, image: &[u8], room: usize) -> Swept {
+    let mut swept = Swept { refusal: 0, count: 0, place: 0, refused: 0, starts: vec![NO_START; room] };
     if image.len() > LONGEST_IMAGE {
         return Swept { refusal: IMAGE_TOO_LONG, ..swept };
     }
@@ -40,32 +51,44 @@ fn repeated(image: &[u8], room: usize) -> Swept {
     }
     while swept.place < image.len() {
         let rust = expected(&image[swept.place..]);
-        if rust.refusal != 0 {
-            return Swept { refusal: rust.refusal, ..swept };
+        match (rust.refusal, rule) {
+            (0, _) => {
+                swept.starts[swept.count] = swept.place as u16;
+                swept.count += 1;
+                swept.place += rust.fields[TAKEN] as usize;
+            }
+            (_, Rule::GoOn) => {
+                swept.refused += 1;
+                swept.place += 1;
+            }
+            (refusal, Rule::Stop) => return Swept { refusal, ..swept },
         }
-        swept.starts[swept.count] = swept.place as u16;
-        swept.count += 1;
-        swept.place += rust.fields[TAKEN] as usize;
     }
     swept
 }
 
-pub fn ported(image: &[u8], room: usize) -> Swept {
-    let mut swept = Swept { refusal: 0, count: UNWRITTEN, place: UNWRITTEN, starts: vec![NO_START; room] };
-    let starts = swept.starts.as_mut_ptr();
-    swept.refusal =
-        unsafe { c::m16c_sweep(image.as_ptr(), image.len(), starts, room, &mut swept.count, &mut swept.place) };
-    swept
+pub fn ported(rule: Rule, image: &[u8], room: usize) -> Swept {
+    let sweep: c::Sweep = match rule {
+        Rule::GoOn => c::m16c_sweep,
+        Rule::Stop => c::m16c_sweep_stopping,
+    };
+    let (mut count, mut place, mut refused) = (UNWRITTEN, UNWRITTEN, UNWRITTEN);
+    let mut starts = vec![NO_START; room];
+    let (bytes, entries) = (image.as_ptr(), starts.as_mut_ptr());
+    let refusal = unsafe { sweep(bytes, image.len(), entries, room, &mut count, &mut place, &mut refused) };
+    Swept { refusal, count, place, refused, starts }
 }
 
-/// With an entry for each byte, with more, and with too few.
+/// By both rules, with an entry for each byte, with more, and with too few.
 fn compare(tally: &mut Tally, image: &[u8]) {
     let length = image.len();
-    for room in [length, length + 1, length + 7, length.saturating_sub(1), length / 2, 0] {
-        let (rust, port) = (repeated(image, room), ported(image, room));
-        tally.count(rust.refusal == 0, rust == port, || {
-            format!("room for {room} starts, image {}\n  Rust {rust:X?}\n  port {port:X?}\n", hex(image))
-        });
+    for rule in [Rule::GoOn, Rule::Stop] {
+        for room in [length, length + 1, length + 7, length.saturating_sub(1), length / 2, 0] {
+            let (rust, port) = (repeated(rule, image, room), ported(rule, image, room));
+            tally.count(rust.refusal == 0, rust == port, || {
+                format!("{rule:?}, room for {room} starts, image {}\n  Rust {rust:X?}\n  port {port:X?}\n", hex(image))
+            });
+        }
     }
 }
 
@@ -78,28 +101,35 @@ fn image_of_the_rules(_part: usize, tally: &mut Tally) {
     }
 }
 
+/// Packed are all of them; the accepted ones, since a refused one would end every stopping sweep; and these without bytes to spare.
 fn stored_images(_part: usize, tally: &mut Tally) {
     let is_string = |line: &&str| line.starts_with(|c: char| c.is_ascii_digit());
     let stored = include_str!("../crates/replay/stdin").lines().filter(is_string).map(stored_bytes);
-    let mut together = Vec::new();
-    for string in stored {
-        compare(tally, &string);
-        if together.len() + string.len() > LONGEST_IMAGE {
-            compare(tally, &together);
-            together.clear();
-        }
-        // A refused string would end every sweep here.
-        if expected(&string).refusal == 0 {
-            together.extend(string);
-        }
+    let strings: Vec<Vec<u8>> = stored.collect();
+    let accepted: Vec<Vec<u8>> = strings.iter().filter(|string| expected(string).refusal == 0).cloned().collect();
+    let taken = |string: &Vec<u8>| string[..expected(string).fields[TAKEN] as usize].to_vec();
+    let whole: Vec<Vec<u8>> = accepted.iter().map(taken).collect();
+    for image in [&strings, &packed(&strings), &packed(&accepted), &packed(&whole)].into_iter().flatten() {
+        compare(tally, image);
     }
-    compare(tally, &together);
 }
 
 /// A stored line begins with how many bytes were given, a blank, and the bytes.
 fn stored_bytes(line: &str) -> Vec<u8> {
     let count = usize::from(line.as_bytes()[0] - b'0');
     (0..count).map(|k| u8::from_str_radix(&line[2 + 2 * k..4 + 2 * k], 16).expect("stored bytes are hex")).collect()
+}
+
+/// One behind the other, in images as long as may be.
+fn packed(strings: &[Vec<u8>]) -> Vec<Vec<u8>> {
+    let mut images = vec![Vec::new()];
+    for string in strings {
+        if images[images.len() - 1].len() + string.len() > LONGEST_IMAGE {
+            images.push(Vec::new());
+        }
+        images.last_mut().expect("there is an image").extend(string);
+    }
+    images
 }
 
 fn images_of_instructions(part: usize, tally: &mut Tally) {
@@ -124,6 +154,27 @@ fn instructions(length: usize, random: &mut Random) -> Vec<u8> {
     image
 }
 
+fn mixed_images(part: usize, tally: &mut Tally) {
+    let mut random = Random::of("mixed images", part);
+    for _ in 0..IMAGES_IN_A_PART {
+        let length = random.below(200);
+        compare(tally, &mixed(length, &mut random));
+    }
+}
+
+/// Instructions, and between them what is refused: strings, and bytes that mostly begin nothing. At least this many bytes.
+fn mixed(length: usize, random: &mut Random) -> Vec<u8> {
+    let mut image = Vec::new();
+    while image.len() < length {
+        image.extend(match random.below(4) {
+            0 => random.refused_string(),
+            1 => vec![random.byte()],
+            _ => random.accepted_string(),
+        });
+    }
+    image
+}
+
 fn random_images(part: usize, tally: &mut Tally) {
     let mut random = Random::of("images at random", part);
     for _ in 0..IMAGES_IN_A_PART {
@@ -132,12 +183,34 @@ fn random_images(part: usize, tally: &mut Tally) {
     }
 }
 
+fn images_of_random_bytes(part: usize, tally: &mut Tally) {
+    let mut random = Random::of("images of random bytes", part);
+    for _ in 0..IMAGES_IN_A_PART {
+        let length = random.below(200);
+        compare(tally, &bytes(length, &mut random));
+    }
+}
+
+fn bytes(length: usize, random: &mut Random) -> Vec<u8> {
+    (0..length).map(|_| random.byte()).collect()
+}
+
+/// A part is the byte. With most bytes every place is refused: no image has more refused places.
+fn images_of_one_byte(part: usize, tally: &mut Tally) {
+    for length in [1, 2, 3, 15, 16, 17, LONGEST_IMAGE] {
+        compare(tally, &vec![part as u8; length]);
+    }
+}
+
 /// Cut at random, so that most end in the midst of an instruction; of each part one image as long as may be, and one a byte longer.
 fn long_images(part: usize, tally: &mut Tally) {
+    const MOST: usize = LONGEST_IMAGE + 200;
     let mut random = Random::of("long images", part);
-    let image = instructions(LONGEST_IMAGE + 200, &mut random);
+    let image = instructions(MOST, &mut random);
     let at_random = LONGEST_IMAGE - 100 + random.below(200);
-    for length in [LONGEST_IMAGE - 1, LONGEST_IMAGE, LONGEST_IMAGE + 1, at_random] {
-        compare(tally, &image[..length]);
+    for image in [image, mixed(MOST, &mut random), bytes(MOST, &mut random)] {
+        for length in [LONGEST_IMAGE - 1, LONGEST_IMAGE, LONGEST_IMAGE + 1, at_random] {
+            compare(tally, &image[..length]);
+        }
     }
 }

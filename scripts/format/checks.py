@@ -109,7 +109,7 @@ def check_answers(page, model, names):
         where = f"{ANSWERS}, line {number}"
         if line[0] == "E":
             check_encoding(where, model, names, line)
-        elif line[0] == "S":
+        elif line[0] in "SG":
             check_sweep(where, model, line)
         elif line[0] == "N":
             check_number(where, model, names, line)
@@ -162,23 +162,26 @@ def check_number(where, model, names, line):
 
 
 def check_sweep(where, model, line):
-    head, count, place, refusal, bits = line.split(" ")
+    """A line of a stopping sweep has the place where it stops; of one that goes on, how many places were refused."""
+    head, count, number, refusal, bits = line.split(" ")
     image = bytes.fromhex(head[3:])[:int(head[1:3], 16)]
-    stored = [p for p in range(16) if int(bits, 16) >> (15 - p) & 1]
-    found = model.sweep(image)
-    same(f"{where}: refusal, starts, place", found[:3], (int(refusal), stored, int(place, 16)))
-    same(f"{where}: count", len(found[1]), int(count, 16))
+    stopping = head[0] == "S"
+    starts = [p for p in range(16) if int(bits, 16) >> (15 - p) & 1]
+    place, refused = (int(number, 16), 0) if stopping else (len(image), int(number, 16))
+    same(f"{where}: refusal, starts, place, refused", model.sweep(image, stopping), (int(refusal), starts, place, refused))
+    same(f"{where}: count", len(starts), int(count, 16))
 
 
 def check_listings(model):
+    """The one image is listed by the rule of its args, each of the many by the byte before it: 0 goes on, 1 stops."""
     with open("crates/list_image/stdin", "rb") as f:
-        same_listing("crates/list_image/stdout", model.listing(f.read()))
+        same_listing("crates/list_image/stdout", model.listing(f.read(), read("crates/list_image/args") == "--stopping\n"))
     with open("crates/list_images/stdin", "rb") as f:
         text = f.read()
     lines, at = [], 0
     while at < len(text):
-        end = at + 2 + int.from_bytes(text[at:at + 2], "big")
-        lines += model.listing(text[at + 2:end])
+        end = at + 3 + int.from_bytes(text[at + 1:at + 3], "big")
+        lines += model.listing(text[at + 3:end], text[at] == 1)
         at = end
     same_listing("crates/list_images/stdout", lines)
 
@@ -196,5 +199,5 @@ def check_examples(page, model):
         answer = model.decode(bs)
         encoded = "" if answer.refusal else model.encode(answer.record)
         where = f"{page.path}, line {line.number}, by the tables"
-        same(where, line["listing"], model.listing(bs)[0])
+        same(where, line["listing"], model.listing(bs, stopping=False)[0])
         same(where, line["encoded again"], "refused 5" if encoded is None else encoded and encoded.hex(" ").upper())

@@ -123,16 +123,26 @@ class Model:
 
     # Sweep and listing
 
-    def sweep(self, image):
-        """Refusal, the starts, and the place where it stops; and the answer there."""
-        starts, place = [], 0
+    def places(self, image, stopping):
+        """Each place that a sweep decodes, with the answer: to the end, or by the stopping rule to the first refusal."""
+        found, place = [], 0
         while place < len(image):
             answer = self.decode(image[place:])
-            if answer.refusal:
-                return answer.refusal, starts, place, answer
-            starts.append(place)
-            place += answer.taken
-        return 0, starts, place, None
+            found.append((place, answer))
+            if answer.refusal and stopping:
+                break
+            place += 1 if answer.refusal else answer.taken
+        return found
+
+    def sweep(self, image, stopping):
+        """Refusal, the starts, the place where it stops, and how many refused places it passed."""
+        found = self.places(image, stopping)
+        starts = [place for place, answer in found if not answer.refusal]
+        refused = [(place, answer.refusal) for place, answer in found if answer.refusal]
+        if stopping and refused:
+            place, refusal = refused[0]
+            return refusal, starts, place, 0
+        return 0, starts, len(image), len(refused)
 
     def line(self, place, r):
         words = [f"{place:04X}", f"{r.length:X}", r.width, r.opcode + ("." + r.size if r.size else "")]
@@ -148,9 +158,14 @@ class Model:
             return ""
         return "=" + ("-" if number < 0 else "+" if signed else "") + f"{abs(number) % 16 ** digits:0{digits}X}"
 
-    def listing(self, image):
+    def listing(self, image, stopping):
         if len(image) > LONGEST_IMAGE:
             return ["REFUSED 7"]
-        refusal, starts, place, answer = self.sweep(image)
-        lines = [self.line(start, self.decode(image[start:]).record) for start in starts]
-        return lines + [f"{place:04X} REFUSED {refusal} TAKEN {answer.taken}" if refusal else f"END {place:04X}"]
+        lines = [self.listed(place, answer) for place, answer in self.places(image, stopping)]
+        refusal, _, place, _ = self.sweep(image, stopping)
+        return lines if refusal else lines + [f"END {place:04X}"]
+
+    def listed(self, place, answer):
+        if answer.refusal:
+            return f"{place:04X} REFUSED {answer.refusal} TAKEN {answer.taken}"
+        return self.line(place, answer.record)

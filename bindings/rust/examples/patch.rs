@@ -10,11 +10,12 @@ const CMP: Opcode = Opcode::CMP(Size::W);
 const SUB: Opcode = Opcode::SUB(Size::W);
 
 #[rustfmt::skip] // an instruction a line
-const IMAGE: [u8; 26] = [
+const IMAGE: [u8; 28] = [
     0x75, 0xC0, 0x00, 0x00, // MOV.W #0, R0
     0x77, 0x40, 0x0A, 0x00, // ADD.W #10, R0
     0x77, 0x80, 0xE8, 0x03, // CMP.W #1000, R0
     0x7D, 0xC8, 0xF6, // JLE, back to the ADD
+    0x00, 0x40, // data, which a sweep passes
     0x75, 0xC8, 0x34, 0x01, 0x00, // MOV.W #1, 34H[A0]
     0x75, 0xCC, 0x34, 0x00, 0x02, 0x00, // MOV.W #2, 34H[A0], with a displacement longer than it needs to be
 ];

@@ -28,13 +28,24 @@ extern "C" {
         bytes_written: *mut usize,
     ) -> u32;
 
-    /// The starts of an image's instructions, from 0 to its end or the first refusal. Returns that refusal, 0 at the end, or 7 or 6, and
-    /// leaves how many starts were kept and where decoding stopped.
+    /// The starts of an image's instructions, to its end: a refused place is counted, and the next byte decoded. Returns 0, and leaves how many
+    /// starts were kept, the image's length and how many places were refused; or returns 7 or 6, and leaves 0 and the starts as they were.
     pub fn m16c_sweep(
         image: *const u8, image_length: usize,
         starts: *mut u16, starts_length: usize,
         count: *mut usize,
         place: *mut usize,
+        refused: *mut usize,
+    ) -> u32;
+
+    /// The starts of an image's instructions, to its end or the first refusal. Returns that refusal, 0 at the end, and leaves how many starts
+    /// were kept, where decoding stopped, and 0 for refused; or returns 7 or 6, and leaves 0 and the starts as they were.
+    pub fn m16c_sweep_stopping(
+        image: *const u8, image_length: usize,
+        starts: *mut u16, starts_length: usize,
+        count: *mut usize,
+        place: *mut usize,
+        refused: *mut usize,
     ) -> u32;
 
     /// The listing's line of the instruction at a place of an image, without a newline, over the first bytes of a buffer. Returns 0 and leaves
@@ -76,6 +87,15 @@ pub type Sweep = unsafe extern "C" fn(
     starts: *mut u16, starts_length: usize,
     count: *mut usize,
     place: *mut usize,
+    refused: *mut usize,
+) -> u32;
+
+pub type SweepStopping = unsafe extern "C" fn(
+    image: *const u8, image_length: usize,
+    starts: *mut u16, starts_length: usize,
+    count: *mut usize,
+    place: *mut usize,
+    refused: *mut usize,
 ) -> u32;
 
 pub type Line = unsafe extern "C" fn(

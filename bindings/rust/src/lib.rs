@@ -14,4 +14,4 @@ pub use calls::{decode, encode, Refused};
 pub use instruction::{Instruction, Operand};
 pub use line::{line, Line};
 pub use names::{Opcode, OperandSpec, Refusal, Size, Width};
-pub use sweep::{sweep, Instructions, Placed, Sweep};
+pub use sweep::{sweep, sweep_stopping, Instructions, Placed, Sweep};

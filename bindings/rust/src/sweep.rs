@@ -1,6 +1,5 @@
 use core::fmt;
 use core::iter::FusedIterator;
-use core::slice;
 
 use crate::calls::accepted;
 use crate::{c, decode, line, Instruction, Refusal, Refused};
@@ -11,40 +10,54 @@ pub struct Sweep<'a> {
     image: &'a [u8],
     /// Where the instructions start.
     pub starts: &'a [u16],
-    /// Where the sweep stopped: behind the last instruction.
+    /// Where the sweep ended: at the image's end, or at the refusal that stopped it.
     pub place: usize,
-    /// Why it stopped there; none at the image's end.
-    pub refused: Option<Refused>,
+    /// How many places were refused and passed. [`sweep_stopping`] passes none.
+    pub refused: usize,
+    /// The refusal that stopped it; none at the image's end, so none by [`sweep`].
+    pub stopped: Option<Refused>,
 }
 
-/// Decodes at 0, then behind each instruction, to the image's end or the first refusal. The starts are kept in the slice that is passed
-/// in, which needs an entry for each byte of the image. Refused are too few entries, and an image of more than 4,096 bytes.
+/// Decodes at 0, then behind each instruction, to the image's end. A refused place is counted and passed by one byte, so that what
+/// stands behind data is found. The starts are kept in the slice that is passed in, which needs an entry for each byte of the image.
+/// Refused are too few entries, and an image of more than 4,096 bytes.
 pub fn sweep<'a>(image: &'a [u8], starts: &'a mut [u16]) -> Result<Sweep<'a>, Refusal> {
-    let (mut count, mut place) = (0, 0);
+    sweep_by(c::m16c_sweep, image, starts)
+}
+
+/// The same, to the image's end or the first refusal.
+pub fn sweep_stopping<'a>(image: &'a [u8], starts: &'a mut [u16]) -> Result<Sweep<'a>, Refusal> {
+    sweep_by(c::m16c_sweep_stopping, image, starts)
+}
+
+fn sweep_by<'a>(function: c::Sweep, image: &'a [u8], starts: &'a mut [u16]) -> Result<Sweep<'a>, Refusal> {
+    let (mut count, mut place, mut refused) = (0, 0, 0);
     let (out, room) = (starts.as_mut_ptr(), starts.len());
     // Sound: both are slices, passed with their own lengths and borrowed for the call, and the numbers are ours.
-    let returned = unsafe { c::m16c_sweep(image.as_ptr(), image.len(), out, room, &mut count, &mut place) };
-    let refused = match accepted(returned) {
+    let returned = unsafe { function(image.as_ptr(), image.len(), out, room, &mut count, &mut place, &mut refused) };
+    let stopped = match accepted(returned) {
         Err(refusal @ (Refusal::TooLittleRoom | Refusal::ImageTooLong)) => return Err(refusal),
         Err(_) => decode(image, place).err(),
         Ok(()) => None,
     };
-    Ok(Sweep { image, starts: &starts[..count], place, refused })
+    Ok(Sweep { image, starts: &starts[..count], place, refused, stopped })
 }
 
 impl<'a> Sweep<'a> {
-    /// The instructions in their order; then, if the sweep did not come to the image's end, the refusal.
+    /// The instructions in their order, and between them the places that were refused and passed; last the refusal that stopped the
+    /// sweep, if one did. `flatten` leaves the instructions alone.
     pub fn instructions(&self) -> Instructions<'a> {
-        Instructions { image: self.image, starts: self.starts.iter(), refused: self.refused }
+        Instructions { image: self.image, place: 0, end: self.place, stopped: self.stopped }
     }
 }
 
-/// The instructions of a sweep.
+/// The instructions and the refused places of a sweep.
 #[derive(Debug, Clone)]
 pub struct Instructions<'a> {
     image: &'a [u8],
-    starts: slice::Iter<'a, u16>,
-    refused: Option<Refused>,
+    place: usize,
+    end: usize,
+    stopped: Option<Refused>,
 }
 
 /// An instruction at its place in an image. Shown, it is the listing's line.
@@ -59,14 +72,13 @@ impl<'a> Iterator for Instructions<'a> {
     type Item = Result<Placed<'a>, Refused>;
 
     fn next(&mut self) -> Option<Self::Item> {
-        let image = self.image;
-        match self.starts.next() {
-            Some(start) => {
-                let place = usize::from(*start);
-                Some(decode(image, place).map(|instruction| Placed { image, place, instruction }))
-            }
-            None => self.refused.take().map(Err),
+        let (image, place) = (self.image, self.place);
+        if place >= self.end {
+            return self.stopped.take().map(Err);
         }
+        let found = decode(image, place);
+        self.place += found.map_or(1, |instruction| usize::from(instruction.length));
+        Some(found.map(|instruction| Placed { image, place, instruction }))
     }
 }
 
@@ -82,12 +94,15 @@ impl fmt::Display for Placed<'_> {
 
 impl fmt::Display for Sweep<'_> {
     fn fmt(&self, f: &mut fmt::Formatter) -> fmt::Result {
-        for placed in self.instructions().flatten() {
-            writeln!(f, "{placed}")?;
+        for found in self.instructions() {
+            match found {
+                Ok(placed) => writeln!(f, "{placed}")?,
+                Err(refused) => writeln!(f, "{refused}")?,
+            }
         }
-        match self.refused {
+        match self.stopped {
             None => writeln!(f, "END {:04X}", self.place),
-            Some(refused) => writeln!(f, "{refused}"),
+            Some(_) => Ok(()),
         }
     }
 }

@@ -1,6 +1,7 @@
 //! The lines that document 01 gives, and a case of every refusal.
 
-use m16c::{decode, encode, line, sweep, Instruction, Opcode, OperandSpec, Refusal, Refused, Size, Width};
+use m16c::{decode, encode, line, sweep, sweep_stopping};
+use m16c::{Instruction, Opcode, OperandSpec, Refusal, Refused, Size, Width};
 
 fn accepted(bytes: &[u8]) -> Instruction {
     decode(bytes, 0).unwrap_or_else(|refused| panic!("{bytes:X?}: {refused}"))
@@ -128,14 +129,38 @@ fn encoding_refused() {
     assert_eq!(buffer, [0xA1, 0x7D, 0xC8, 0x05]);
 }
 
+/// The fourteen bytes, by both rules: request A1's goes on behind the refusal.
+#[test]
+fn swept_bytes() {
+    const IMAGE: [u8; 14] = [0x74, 0x0F, 0x34, 0x12, 0x89, 0x67, 0xF5, 0x7D, 0xC8, 0x05, 0xEB, 0xC5, 0x7E, 0xE0];
+    const STOPPED: &str = "\
+0000 7 B STE Abs16=1234 Abs20=56789 !
+0007 3 W JLE Disp8=+05
+000A 2 - INT Imm8=05
+000C REFUSED 2 TAKEN 2
+";
+    let mut starts = [0; IMAGE.len()];
+    let stopping = sweep_stopping(&IMAGE, &mut starts).expect("a sweep");
+    assert_eq!((stopping.starts, stopping.place, stopping.refused), (&[0, 7, 10][..], 12, 0));
+    assert_eq!(stopping.stopped, Some(Refused { place: 12, refusal: Refusal::InvalidOpcode, taken: 2 }));
+    assert_eq!(stopping.to_string(), STOPPED);
+    let going_on = sweep(&IMAGE, &mut starts).expect("a sweep");
+    assert_eq!((going_on.starts, going_on.place, going_on.refused), (&[0, 7, 10][..], 14, 2));
+    assert_eq!(going_on.stopped, None);
+    assert_eq!(going_on.to_string(), format!("{STOPPED}000D REFUSED 4 TAKEN 1\nEND 000E\n"));
+}
+
 #[test]
 fn sweeping_refused() {
     const UNTOUCHED: [u16; 4097] = [0xDEAD; 4097];
     let image = [0xEB; 4097];
     let mut starts = UNTOUCHED;
-    assert_eq!(sweep(&image, &mut starts).err(), Some(Refusal::ImageTooLong));
-    assert_eq!(sweep(&image, &mut []).err(), Some(Refusal::ImageTooLong));
-    assert_eq!(sweep(&image[..9], &mut starts[..8]).err(), Some(Refusal::TooLittleRoom));
+    for sweep in [sweep, sweep_stopping] {
+        assert_eq!(sweep(&image, &mut starts).err(), Some(Refusal::ImageTooLong));
+        assert_eq!(sweep(&image, &mut []).err(), Some(Refusal::ImageTooLong));
+        assert_eq!(sweep(&image[..9], &mut starts[..8]).err(), Some(Refusal::TooLittleRoom));
+        assert_eq!(sweep(&image[..1], &mut []).err(), Some(Refusal::TooLittleRoom));
+    }
     assert_eq!(starts, UNTOUCHED);
     assert_eq!(Refusal::ImageTooLong.to_string(), "REFUSED 7");
 }

@@ -1,27 +1,52 @@
-//! Sweeps are decoding repeated, and are shown as the stored listings.
+//! Sweeps are decoding repeated by their rule, and are shown as the stored listings.
 
-use m16c::{decode, sweep, Instruction, Refused, LONGEST_IMAGE};
+use m16c::{decode, sweep, sweep_stopping, Instruction, Refusal, Refused, Sweep, LONGEST_IMAGE};
 
+// An image that ends in the bytes of document 01, and its listing by the stopping rule.
 const IMAGE: &[u8] = include_bytes!("../../../crates/list_image/stdin");
 const LISTING: &str = include_str!("../../../crates/list_image/stdout");
-// Images, each behind two bytes that say how long it is, the higher first; and their listings one behind the other.
+// Images, each behind a byte for its rule and two that say how long it is, the higher first; and their listings one behind the other.
 const IMAGES: &[u8] = include_bytes!("../../../crates/list_images/stdin");
 const LISTINGS: &str = include_str!("../../../crates/list_images/stdout");
 
-fn images() -> Vec<&'static [u8]> {
+// Refused at each byte.
+const DATA: [u8; 5] = [0x00, 0x40, 0xFF, 0x7E, 0xE0];
+
+#[derive(Debug, Clone, Copy, PartialEq)]
+enum Rule {
+    GoOn,
+    Stop,
+}
+
+use Rule::{GoOn, Stop};
+
+impl Rule {
+    fn sweep<'a>(self, image: &'a [u8], starts: &'a mut [u16]) -> Result<Sweep<'a>, Refusal> {
+        match self {
+            GoOn => sweep(image, starts),
+            Stop => sweep_stopping(image, starts),
+        }
+    }
+}
+
+fn images() -> Vec<(Rule, &'static [u8])> {
     let (mut rest, mut images) = (IMAGES, Vec::new());
-    while let [high, low, behind @ ..] = rest {
+    while let [rule, high, low, behind @ ..] = rest {
+        let rule = *[GoOn, Stop].get(usize::from(*rule)).expect("a rule");
         let (image, after) = behind.split_at(usize::from(u16::from_be_bytes([*high, *low])));
-        images.push(image);
+        images.push((rule, image));
         rest = after;
     }
-    assert!(images.len() > 10, "the stored images are read");
+    assert!(rest.is_empty(), "the last image is whole");
+    for rule in [GoOn, Stop] {
+        assert!(images.iter().filter(|(its, _)| *its == rule).count() > 10, "the stored images are read");
+    }
     images
 }
 
-fn listed(image: &[u8]) -> String {
+fn listed(rule: Rule, image: &[u8]) -> String {
     let mut starts = [0; LONGEST_IMAGE];
-    match sweep(image, &mut starts) {
+    match rule.sweep(image, &mut starts) {
         Ok(sweep) => sweep.to_string(),
         Err(refusal) => format!("{refusal}\n"),
     }
@@ -29,66 +54,121 @@ fn listed(image: &[u8]) -> String {
 
 #[test]
 fn stored_listings() {
-    assert_eq!(listed(IMAGE), LISTING);
-    let listings: String = images().into_iter().map(listed).collect();
+    assert_eq!(listed(Stop, IMAGE), LISTING);
+    let listings: String = images().into_iter().map(|(rule, image)| listed(rule, image)).collect();
     assert_eq!(listings, LISTINGS);
+}
+
+#[test]
+fn going_on_lists_what_is_behind_the_refusal() {
+    assert!(LISTING.ends_with("0FFC 2 - INT Imm8=05\n0FFE REFUSED 2 TAKEN 2\n"));
+    assert_eq!(listed(GoOn, IMAGE), format!("{LISTING}0FFF REFUSED 4 TAKEN 1\nEND 1000\n"));
 }
 
 #[test]
 fn what_is_placed_is_shown_as_its_line() {
     let mut starts = [0; LONGEST_IMAGE];
-    let sweep = sweep(IMAGE, &mut starts).expect("a sweep");
-    let lines: Vec<String> = sweep.instructions().map(|found| found.expect("an instruction").to_string()).collect();
+    let sweep = sweep_stopping(IMAGE, &mut starts).expect("a sweep");
+    let lines: Vec<String> = sweep.instructions().flatten().map(|placed| placed.to_string()).collect();
     let stored: Vec<&str> = LISTING.lines().collect();
     assert_eq!(lines, stored[..stored.len() - 1]);
-    assert_eq!(stored.last(), Some(&"END 1000"));
 }
 
-/// The instructions with their places, then the refusal that ended it, if one did.
-fn repeated(image: &[u8]) -> (Vec<(usize, Instruction)>, Option<Refused>) {
-    let (mut found, mut place) = (Vec::new(), 0);
-    while place < image.len() {
-        match decode(image, place) {
+/// What a sweep finds, in its order, and where and by what it ends.
+#[derive(Debug, PartialEq)]
+struct Found {
+    items: Vec<Result<(usize, Instruction), Refused>>,
+    place: usize,
+    stopped: Option<Refused>,
+}
+
+/// Decoding repeated by a rule.
+fn repeated(rule: Rule, image: &[u8]) -> Found {
+    let mut found = Found { items: Vec::new(), place: 0, stopped: None };
+    while found.place < image.len() && found.stopped.is_none() {
+        match decode(image, found.place) {
             Ok(instruction) => {
-                found.push((place, instruction));
-                place += usize::from(instruction.length);
+                found.items.push(Ok((found.place, instruction)));
+                found.place += usize::from(instruction.length);
             }
-            Err(refused) => return (found, Some(refused)),
+            Err(refused) => {
+                found.items.push(Err(refused));
+                match rule {
+                    GoOn => found.place += 1,
+                    Stop => found.stopped = Some(refused),
+                }
+            }
         }
     }
-    (found, None)
+    found
 }
 
-fn check_sweep(image: &[u8]) {
+fn check_sweep(rule: Rule, image: &[u8]) {
     // The entry behind the image's is not to be touched.
     let mut starts = vec![0xDEAD; image.len() + 1];
-    let (expected, refused) = repeated(image);
-    let swept = sweep(image, &mut starts).expect("a sweep");
+    let expected = repeated(rule, image);
+    let swept = rule.sweep(image, &mut starts).expect("a sweep");
     let mut instructions = swept.instructions();
-    let mut found = Vec::new();
-    let mut stop = None;
-    for item in instructions.by_ref() {
-        assert_eq!(stop, None, "nothing comes behind a refusal");
-        match item {
-            Ok(placed) => found.push((placed.place, placed.instruction)),
-            Err(refused) => stop = Some(refused),
-        }
-    }
-    assert!(instructions.next().is_none());
-    assert_eq!((&found, stop), (&expected, refused), "{image:X?}");
-    assert_eq!(swept.place, stop.map_or(image.len(), |refused| refused.place));
-    assert!(swept.starts.iter().map(|start| usize::from(*start)).eq(expected.iter().map(|(place, _)| *place)));
-    assert_eq!(starts[expected.len()..], vec![0xDEAD; image.len() + 1 - expected.len()]);
+    let items = instructions.by_ref().map(|item| item.map(|placed| (placed.place, placed.instruction))).collect();
+    assert!(instructions.next().is_none() && instructions.next().is_none());
+    assert_eq!(Found { items, place: swept.place, stopped: swept.stopped }, expected, "{rule:?} {image:X?}");
+    let places: Vec<u16> = expected.items.iter().flatten().map(|(place, _)| *place as u16).collect();
+    assert_eq!(swept.starts, places);
+    let passed = expected.items.len() - places.len() - usize::from(expected.stopped.is_some());
+    assert_eq!(swept.refused, passed);
+    assert_eq!(starts[places.len()..], vec![0xDEAD; image.len() + 1 - places.len()]);
+}
+
+fn check_both(image: &[u8]) {
+    check_sweep(GoOn, image);
+    check_sweep(Stop, image);
 }
 
 #[test]
 fn sweeps_are_decoding_repeated() {
-    images().into_iter().filter(|image| image.len() <= LONGEST_IMAGE).for_each(check_sweep);
-    (0..=IMAGE.len()).step_by(37).for_each(|length| check_sweep(&IMAGE[..length]));
-    // Damaged at one place each.
-    for place in (0..IMAGE.len()).step_by(41) {
+    images().into_iter().filter(|(_, image)| image.len() <= LONGEST_IMAGE).for_each(|(_, image)| check_both(image));
+    (0..=IMAGE.len()).step_by(37).for_each(|length| check_both(&IMAGE[..length]));
+    // Damaged at one place each: a byte, and some that are refused.
+    for place in (0..IMAGE.len() - DATA.len()).step_by(41) {
         let mut damaged = IMAGE.to_vec();
         damaged[place] ^= 0x7F;
-        check_sweep(&damaged);
+        check_both(&damaged);
+        damaged[place..place + DATA.len()].copy_from_slice(&DATA);
+        check_both(&damaged);
     }
+}
+
+#[test]
+fn data_between_instructions() {
+    const JUMP: [u8; 3] = [0x7D, 0xC8, 0x05];
+    let image = [&JUMP[..], &DATA, &JUMP].concat();
+    let to_refusal = "\
+0000 3 W JLE Disp8=+05
+0003 REFUSED 4 TAKEN 1
+";
+    let behind = "\
+0004 REFUSED 4 TAKEN 1
+0005 REFUSED 4 TAKEN 1
+0006 REFUSED 2 TAKEN 2
+0007 REFUSED 4 TAKEN 1
+0008 3 W JLE Disp8=+05
+END 000B
+";
+    assert_eq!(listed(GoOn, &image), [to_refusal, behind].concat());
+    assert_eq!(listed(Stop, &image), to_refusal);
+    let mut starts = [0; LONGEST_IMAGE];
+    let swept = sweep(&image, &mut starts).expect("a sweep");
+    assert_eq!((swept.starts, swept.place, swept.refused, swept.stopped), (&[0, 8][..], 11, 5, None));
+    let swept = sweep_stopping(&image, &mut starts).expect("a sweep");
+    let stopped = Refused { place: 3, refusal: Refusal::FirstByteOutside, taken: 1 };
+    assert_eq!((swept.starts, swept.place, swept.refused, swept.stopped), (&[0][..], 3, 0, Some(stopped)));
+}
+
+#[test]
+fn nothing_but_data() {
+    (0..=DATA.len()).for_each(|length| check_both(&DATA[..length]));
+    assert_eq!(listed(GoOn, &[]), "END 0000\n");
+    assert_eq!(listed(Stop, &[]), "END 0000\n");
+    assert_eq!(listed(GoOn, &DATA[..1]), "0000 REFUSED 4 TAKEN 1\nEND 0001\n");
+    check_both(&[0xFF; LONGEST_IMAGE]);
 }

@@ -2,39 +2,49 @@
 
 use std::ptr::{null, null_mut};
 
-use m16c::c::{LONGEST_LINE, m16c_decode, m16c_encode, m16c_line, m16c_operand_number, m16c_sweep};
+use m16c::c::{m16c_decode, m16c_encode, m16c_line, m16c_operand_number, m16c_sweep, m16c_sweep_stopping};
+use m16c::c::{Sweep, LONGEST_LINE};
 
 const EXHAUSTED_INPUT: u32 = 1;
 const NO_STRING: u32 = 5;
 const TOO_LITTLE_ROOM: u32 = 6;
 const NUMBERS: usize = 13;
 
+const SWEEPS: [Sweep; 2] = [m16c_sweep, m16c_sweep_stopping];
+
 #[test]
 fn no_image() {
     let (mut record, mut line, mut starts) = ([9; NUMBERS], [9; LONGEST_LINE], [9; 3]);
-    let (mut length, mut count, mut place) = (9, 9, 9);
+    let mut length = 9;
     for at in [0, 1, usize::MAX] {
         let decoded = unsafe { m16c_decode(null(), 0, at, record.as_mut_ptr(), record.len()) };
         assert_eq!((decoded, record), (EXHAUSTED_INPUT, [0; NUMBERS]));
         let listed = unsafe { m16c_line(null(), 0, at, line.as_mut_ptr(), line.len(), &mut length) };
         assert_eq!((listed, line, length), (EXHAUSTED_INPUT, [9; LONGEST_LINE], 0));
     }
-    let swept = unsafe { m16c_sweep(null(), 0, starts.as_mut_ptr(), starts.len(), &mut count, &mut place) };
-    assert_eq!((swept, starts, count, place), (0, [9; 3], 0, 0));
+    for sweep in SWEEPS {
+        let (mut count, mut place, mut refused) = (9, 9, 9);
+        let (out, room) = (starts.as_mut_ptr(), starts.len());
+        let swept = unsafe { sweep(null(), 0, out, room, &mut count, &mut place, &mut refused) };
+        assert_eq!((swept, starts, count, place, refused), (0, [9; 3], 0, 0, 0));
+    }
 }
 
 #[test]
 fn no_room() {
     let image = [0xEB, 0xC5];
     let mut record = [9; NUMBERS];
-    let (mut length, mut count, mut place) = (9, 9, 9);
+    let mut length = 9;
     let decoded = unsafe { m16c_decode(image.as_ptr(), image.len(), 0, record.as_mut_ptr(), record.len()) };
     assert_eq!(decoded, 0);
     assert_eq!(unsafe { m16c_decode(image.as_ptr(), image.len(), 0, null_mut(), 0) }, TOO_LITTLE_ROOM);
     let listed = unsafe { m16c_line(image.as_ptr(), image.len(), 0, null_mut(), 0, &mut length) };
     assert_eq!((listed, length), (TOO_LITTLE_ROOM, 0));
-    let swept = unsafe { m16c_sweep(image.as_ptr(), image.len(), null_mut(), 0, &mut count, &mut place) };
-    assert_eq!((swept, count, place), (TOO_LITTLE_ROOM, 0, 0));
+    for sweep in SWEEPS {
+        let (mut count, mut place, mut refused) = (9, 9, 9);
+        let swept = unsafe { sweep(image.as_ptr(), image.len(), null_mut(), 0, &mut count, &mut place, &mut refused) };
+        assert_eq!((swept, count, place, refused), (TOO_LITTLE_ROOM, 0, 0, 0));
+    }
     for place in [0, 1, usize::MAX] {
         let encoded = unsafe { m16c_encode(record.as_ptr(), record.len(), null_mut(), 0, place, &mut length) };
         assert_eq!((encoded, length), (TOO_LITTLE_ROOM, 0));
@@ -43,11 +53,15 @@ fn no_room() {
 
 #[test]
 fn nothing_at_all() {
-    let (mut length, mut count, mut place, mut number) = (9, 9, 9, 9);
+    let (mut length, mut number) = (9, 9);
     assert_eq!(unsafe { m16c_decode(null(), 0, 0, null_mut(), 0) }, TOO_LITTLE_ROOM);
     assert_eq!(unsafe { m16c_encode(null(), 0, null_mut(), 0, 0, &mut length) }, NO_STRING);
     assert_eq!(unsafe { m16c_line(null(), 0, 0, null_mut(), 0, &mut length) }, EXHAUSTED_INPUT);
-    assert_eq!(unsafe { m16c_sweep(null(), 0, null_mut(), 0, &mut count, &mut place) }, 0);
+    for sweep in SWEEPS {
+        let (mut count, mut place, mut refused) = (9, 9, 9);
+        assert_eq!(unsafe { sweep(null(), 0, null_mut(), 0, &mut count, &mut place, &mut refused) }, 0);
+        assert_eq!((count, place, refused), (0, 0, 0));
+    }
     assert_eq!(unsafe { m16c_operand_number(null(), 0, 0, &mut number) }, NO_STRING);
-    assert_eq!((length, count, place, number), (0, 0, 0, 0));
+    assert_eq!((length, number), (0, 0));
 }

@@ -1,9 +1,30 @@
-// Lists the instructions of an image from standard input: a line for each, and one for where decoding stops.
+// Lists an image from standard input: a line for each instruction and each refused place, and one for the image's end. With the argument
+// --stopping it ends at the first refused place.
+mod asked;
+
+use asked::Asked;
+use libc::STDERR_FILENO;
 use libc::STDIN_FILENO;
+use sweep::Rule;
 
 // The buffer has a byte more than an image may have, so that a longer one is told.
-fn main() {
+fn list(rule: Rule) {
     let mut image = [0u8; 4097];
     let n = io::read_full(STDIN_FILENO, &mut image);
-    listing::list(&image[..n]);
+    listing::list(rule, &image[..n]);
+}
+
+// A word too long for its buffer comes as none, and is not known either.
+fn main() {
+    let mut word = [0u8; 16];
+    let n = os::arg(1, &mut word);
+    match asked::by_words(os::arg_count(), &word[..n]) {
+        Asked::By(rule) => list(rule),
+        Asked::Unknown => {
+            io::write_all(
+                STDERR_FILENO,
+                b"list_image: an image comes from standard input, the only argument is --stopping\n",
+            );
+        }
+    }
 }

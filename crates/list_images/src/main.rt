@@ -1,6 +1,8 @@
-// Lists several images from standard input: two bytes say how many bytes follow, the higher first. The gate runs it on stored examples.
+// Lists several images from standard input. Before each stand a byte for its rule, 0 goes on and any other stops, and two that say how
+// many bytes follow, the higher first. The gate runs it on stored examples.
 ghost use Prim.Native.Nat.{_<_};
 use libc::STDIN_FILENO;
+use sweep::Rule;
 
 fn wide(b: u8) -> usize
     ensures { λ r. ⌜ r < 256 ⌝ }
@@ -8,17 +10,24 @@ fn wide(b: u8) -> usize
     b as usize
 }
 
+fn rule_of(b: u8) -> Rule {
+    if b == 0 {
+        return Rule::GoOn;
+    }
+    Rule::Stop
+}
+
 // An image that is cut short ends it.
 fn list_all(text: &[u8]) {
     let mut at: usize = 0;
-    while 2 <= text.len() - at {
-        let start = at + 2;
-        let size = 256 * wide(text[at]) + wide(text[at + 1]);
+    while 3 <= text.len() - at {
+        let start = at + 3;
+        let size = 256 * wide(text[at + 1]) + wide(text[at + 2]);
         if text.len() - start < size {
             return;
         }
         let end = start + size;
-        listing::list(&text[start..end]);
+        listing::list(rule_of(text[at]), &text[start..end]);
         at = end;
     }
 }

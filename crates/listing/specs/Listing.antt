@@ -1,13 +1,14 @@
--- Document 01, "Bench lines": the whole text of an image's listing, a line for each place that the sweep visits.
+-- Document 01, "Bench lines", and request A1: the whole text of an image's listing by a rule, a line for each place that the sweep visits.
 use Prim.Native.Nat.{ℕ}
 use mathlib.Core.List.{List, _++_}
 use lib.ListN.{length}
 use lib.Dec.{ltb}
 use Rattle.laws.specs.Choice.{pick}
 use Rattle.rows.specs.Run.{decodeRows}
+use Rattle.sweep.specs.declared.Rule.{Rule}
 use Rattle.sweep.specs.declared.step.Step.{Step}
 use Rattle.sweep.specs.declared.step.Step.the-variants.{End, Accepted, Refused}
-use Rattle.sweep.specs.Walk.{Walk, last, more, stopping, walk}
+use Rattle.sweep.specs.Walk.{Walk, last, more, walk}
 use Rattle.line.specs.Characters.{spelled}
 use Rattle.line.specs.Line.{lineOf, endText, refusedText}
 
@@ -27,13 +28,13 @@ textOf (last p s) = lineAt p s
 textOf (more p s w) = lineAt p s ++ textOf w
 
 -- from place p on
-abbrev pub listed : List ℕ → ℕ → List ℕ
-listed bs p = textOf (walk decodeRows stopping bs p)
+abbrev pub listed : Rule → List ℕ → ℕ → List ℕ
+listed rule bs p = textOf (walk decodeRows rule bs p)
 
 -- the whole listing of a refused image
 abbrev pub tooLongText : List ℕ
 tooLongText = spelled "REFUSED 7\n"
 
 -- an image of more than 4,096 bytes is refused
-unfoldable pub listing : List ℕ → List ℕ
-listing bs = pick (ltb 4096 (length bs)) tooLongText (listed bs 0)
+unfoldable pub listing : Rule → List ℕ → List ℕ
+listing rule bs = pick (ltb 4096 (length bs)) tooLongText (listed rule bs 0)

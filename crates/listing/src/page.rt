@@ -1,13 +1,16 @@
 // A listing in pieces: as many whole lines as fit into a buffer.
 ghost use mathlib.Core.Path.{_≡_};
 ghost use mathlib.Core.List.{List};
-ghost use Prim.Native.Nat.{ℕ, _≤_};
+ghost use Prim.Native.Nat.{ℕ, _+_, _^_, _≤_, _<_};
 ghost use lib.ListN.{length};
 ghost use Rattle.laws.specs.Over.{over};
 ghost use Rattle.line.specs.Left.{Writes};
 ghost use Rattle.listing.specs.Listing.{stepText, lineAt, listing};
-ghost use Rattle.listing.specs.steps.Page.{toList, isMore, Filled};
+ghost use Rattle.listing.specs.steps.Page.{toList, nextOf, isMore, Filled};
+ghost use Rattle.sweep.specs.Walk.{onward};
+ghost use Rattle.sweep.specs.Visits.{bytesOf};
 use line::Written;
+use sweep::Rule;
 use sweep::step;
 use sweep::step::Step;
 
@@ -29,7 +32,7 @@ pub struct Page {
 
 // An image of more than 4,096 bytes is refused.
 pub fn first(image: &[u8]) -> Next
-    ensures { λ r. ⌜ toList (now (image .entry)) r ≡ listing (now (image .entry)) ⌝ }
+    ensures { λ r. ⌜ ((rule : Rule) → toList rule (now (image .entry)) r ≡ listing rule (now (image .entry))) ⌝ }
 {
     if 4096 < image.len() {
         return Next::TooLong;
@@ -69,20 +72,35 @@ fn put_line(place: usize, here: Step, out: &mut [u8]) -> usize
     n + 1
 }
 
+// What is to be listed behind the line of a place.
+fn behind(rule: Rule, place: usize, here: Step) -> Next
+    requires { ⌜ place + bytesOf here < 2 ^ 64 ⌝ }
+    ensures { λ r. ⌜ r ≡ nextOf (onward rule place here) ⌝ }
+{
+    match here {
+        Step::End => Next::Nothing,
+        Step::Accepted(_, taken) => Next::From(place + taken),
+        Step::Refused(_, _) => match rule {
+            Rule::GoOn => Next::From(place + 1),
+            Rule::Stop => Next::Nothing,
+        },
+    }
+}
+
 // What is listed of an image from a place on, as far as whole lines fit.
-fn fill_lines(image: &[u8], from: usize, out: &mut [u8]) -> Page
-    ensures { λ r. ⌜ Filled (now (image .entry)) (Next.From from) (length (now (out .entry))) r (now (out .exit)) ⌝ }
+fn fill_lines(rule: Rule, image: &[u8], from: usize, out: &mut [u8]) -> Page
+    ensures { λ r. ⌜ Filled rule (now (image .entry)) (Next.From from) (length (now (out .entry))) r (now (out .exit)) ⌝ }
 {
     let mut at: usize = 0;
     let mut place = from;
     while ROOM <= out.len() - at {
         let here = step::step_at(image, place);
         at = at + put_line(place, here, &mut out[at..]);
-        match here {
-            Step::Accepted(_, taken) => {
-                place = place + taken;
+        match behind(rule, place, here) {
+            Next::From(q) => {
+                place = q;
             }
-            Step::End | Step::Refused(_, _) => {
+            Next::TooLong | Next::Nothing => {
                 return Page {
                     length: at,
                     next: Next::Nothing,
@@ -97,7 +115,7 @@ fn fill_lines(image: &[u8], from: usize, out: &mut [u8]) -> Page
 }
 
 fn fill_too_long(out: &mut [u8]) -> Page
-    ensures { λ r. ⌜ ((image : List ℕ) → Filled image Next.TooLong (length (now (out .entry))) r (now (out .exit))) ⌝ }
+    ensures { λ r. ⌜ ((rule : Rule) (image : List ℕ) → Filled rule image Next.TooLong (length (now (out .entry))) r (now (out .exit))) ⌝ }
 {
     if out.len() < ROOM {
         return Page {
@@ -112,12 +130,12 @@ fn fill_too_long(out: &mut [u8]) -> Page
 }
 
 // The next page of a listing.
-pub fn fill(image: &[u8], next: Next, out: &mut [u8]) -> Page
-    ensures { λ r. ⌜ Filled (now (image .entry)) next (length (now (out .entry))) r (now (out .exit)) ⌝ }
+pub fn fill(rule: Rule, image: &[u8], next: Next, out: &mut [u8]) -> Page
+    ensures { λ r. ⌜ Filled rule (now (image .entry)) next (length (now (out .entry))) r (now (out .exit)) ⌝ }
 {
     match next {
         Next::TooLong => fill_too_long(out),
-        Next::From(place) => fill_lines(image, place, out),
+        Next::From(place) => fill_lines(rule, image, place, out),
         Next::Nothing => Page {
             length: 0,
             next: Next::Nothing,

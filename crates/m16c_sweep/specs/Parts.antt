@@ -1,8 +1,13 @@
--- What m16c_sweep returns and leaves: the sweep's answer in parts.
+-- What the sweeps for C return and leave: the sweep's answer in parts.
 use Prim.Native.Nat.{ℕ}
 use mathlib.Core.List.{List}
+use Rattle.sweep.specs.declared.Rule.{Rule}
+use Rattle.sweep.specs.declared.Swept.{Swept}
 use Rattle.sweep.specs.Sweep.{Sweeps}
 
--- the promise: the refusal is returned, and count, place and starts are left as the sweep says
-abbrev pub SweepsInParts : (image starts : List ℕ) (r count place : ℕ) (after : List ℕ) → Type 0
-SweepsInParts image starts r count place after = Sweeps image starts (record { refusal = r; count = count; place = place }) after
+abbrev pub sweptIn : (r count place refused : ℕ) → Swept
+sweptIn r count place refused = record { refusal = r; count = count; place = place; refused = refused }
+
+-- the promise, by rule: the refusal is returned, and count, place, refused and starts are left as the sweep says
+abbrev pub SweepsInParts : Rule → (image starts : List ℕ) (r count place refused : ℕ) (after : List ℕ) → Type 0
+SweepsInParts rule image starts r count place refused after = Sweeps rule image starts (sweptIn r count place refused) after

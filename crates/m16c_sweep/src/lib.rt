@@ -1,19 +1,44 @@
-// The sweep for C, a crate of its own: the functions below are inlined into it only where they have one caller.
-ghost use Rattle.m16c_sweep.specs.Parts.{SweepsInParts};
+// The sweeps for C, a crate of their own: both share one loop, and what stands below is inlined into it where it has one caller.
+ghost use mathlib.Core.Path.{_≡_};
+ghost use Rattle.m16c_sweep.specs.Parts.{sweptIn, SweepsInParts};
+ghost use Rattle.sweep.specs.declared.Rule.{Rule};
+use sweep::Swept;
 
-// The starts of an image's instructions, from 0 to its end or the first refusal. Returns that refusal, 0 at the end, or 7 or 6, and
-// leaves how many starts were kept and where decoding stopped.
+// The starts of an image's instructions, to its end: a refused place is counted, and the next byte decoded. Returns 0, and leaves how many
+// starts were kept, the image's length and how many places were refused; or returns 7 or 6, and leaves 0 and the starts as they were.
 #[no_mangle]
 pub extern "C" fn m16c_sweep(
     image: &[u8],
     starts: &mut [u16],
     count: &mut usize,
     place: &mut usize,
+    refused: &mut usize,
 ) -> u32
-    ensures { λ r. ⌜ SweepsInParts (now (image .entry)) (now (starts .entry)) r (now (count .exit)) (now (place .exit)) (now (starts .exit)) ⌝ }
+    ensures { λ r. ⌜ SweepsInParts Rule.GoOn (now (image .entry)) (now (starts .entry)) r (now (count .exit)) (now (place .exit)) (now (refused .exit)) (now (starts .exit)) ⌝ }
 {
-    let s = sweep::sweep(image, starts);
+    in_parts(sweep::sweep(image, starts), count, place, refused)
+}
+
+// The starts of an image's instructions, to its end or the first refusal. Returns that refusal, 0 at the end, and leaves how many starts
+// were kept, where decoding stopped, and 0 for refused; or returns 7 or 6, and leaves 0 and the starts as they were.
+#[no_mangle]
+pub extern "C" fn m16c_sweep_stopping(
+    image: &[u8],
+    starts: &mut [u16],
+    count: &mut usize,
+    place: &mut usize,
+    refused: &mut usize,
+) -> u32
+    ensures { λ r. ⌜ SweepsInParts Rule.Stop (now (image .entry)) (now (starts .entry)) r (now (count .exit)) (now (place .exit)) (now (refused .exit)) (now (starts .exit)) ⌝ }
+{
+    in_parts(sweep::sweep_stopping(image, starts), count, place, refused)
+}
+
+fn in_parts(s: Swept, count: &mut usize, place: &mut usize, refused: &mut usize) -> u32
+    ensures { λ r. ⌜ s ≡ sweptIn r (now (count .exit)) (now (place .exit)) (now (refused .exit)) ⌝ }
+{
     *count = s.count;
     *place = s.place;
+    *refused = s.refused;
     s.refusal as u32
 }

@@ -1,10 +1,11 @@
--- Any line of the stored list, by its first character: E (69) a record to encode, S (83) an image to sweep, N (78) a record with an operand to
--- ask for, any other bytes to decode.
+-- Any line of the stored list, by its first character: E (69) a record to encode, S (83) an image to sweep up to a refusal, G (71) one to sweep
+-- to its end, N (78) a record with an operand to ask for, any other bytes to decode.
 use Prim.Native.Nat.{ℕ}
 use mathlib.Core.List.{List}
 use lib.Dec.{eqb}
 use lib.ListN.{getD}
 use Rattle.laws.specs.Choice.{pick}
+use Rattle.sweep.specs.declared.Rule.the-variants.{GoOn, Stop}
 use Rattle.replay.specs.declared.kind.Kind.{Kind}
 use Rattle.replay.specs.declared.kind.Kind.the-variants.{Encodes, Sweeps, Asks, Decodes}
 use Rattle.replay.specs.declared.verdict.Verdict.{Verdict}
@@ -16,19 +17,19 @@ use Rattle.replay.specs.Verdict.{Judged}
 
 -- what the first character tells
 abbrev pub kindOf : List ℕ → Kind
-kindOf s = pick (eqb (getD s 0 0) 69) Encodes (pick (eqb (getD s 0 0) 83) Sweeps (pick (eqb (getD s 0 0) 78) Asks Decodes))
+kindOf s = pick (eqb (getD s 0 0) 69) Encodes (pick (eqb (getD s 0 0) 83) (Sweeps Stop) (pick (eqb (getD s 0 0) 71) (Sweeps GoOn) (pick (eqb (getD s 0 0) 78) Asks Decodes)))
 
 -- a line has the form of its kind
 abbrev pub Whole : Kind → List ℕ → Type 0
 Whole Encodes s = encoding.Whole s
-Whole Sweeps s = sweeping.Whole s
+Whole (Sweeps rule) s = sweeping.Whole rule s
 Whole Asks s = asking.Whole s
 Whole Decodes s = decoding.Whole s
 
 -- what it says is what the promise of its kind allows
 abbrev pub Right : Kind → List ℕ → Type 0
 Right Encodes s = encoding.Right s
-Right Sweeps s = sweeping.Right s
+Right (Sweeps rule) s = sweeping.Right rule s
 Right Asks s = asking.Right s
 Right Decodes s = decoding.Right s
 

@@ -1,10 +1,12 @@
-// What a line of the stored list holds: a record to encode, an image to sweep, a record with an operand to ask for, or bytes to decode.
+// What a line of the stored list holds: a record to encode, an image to sweep by a rule, a record with an operand to ask for, or bytes to
+// decode.
 ghost use mathlib.Core.Path.{_≡_};
 ghost use Rattle.replay.specs.Line.{kindOf};
+use sweep::Rule;
 
 pub enum Kind {
     Encodes,
-    Sweeps,
+    Sweeps(Rule),
     Asks,
     Decodes,
 }
@@ -20,7 +22,10 @@ pub(crate) fn kind_of(line: &[u8]) -> Kind
         return Kind::Encodes;
     }
     if line[0] == b'S' {
-        return Kind::Sweeps;
+        return Kind::Sweeps(Rule::Stop);
+    }
+    if line[0] == b'G' {
+        return Kind::Sweeps(Rule::GoOn);
     }
     if line[0] == b'N' {
         return Kind::Asks;

@@ -36,7 +36,7 @@ fn is_whole(line: &[u8], kind: Kind) -> bool
 {
     match kind {
         Kind::Encodes => encoding::is_whole(line),
-        Kind::Sweeps => sweeping::is_whole(line),
+        Kind::Sweeps(rule) => sweeping::is_whole(line, rule),
         Kind::Asks => asking::is_whole(line),
         Kind::Decodes => decoding::is_whole(line),
     }
@@ -48,7 +48,7 @@ fn agrees(line: &[u8], kind: Kind) -> bool
 {
     match kind {
         Kind::Encodes => encoding::agrees(line),
-        Kind::Sweeps => sweeping::agrees(line),
+        Kind::Sweeps(rule) => sweeping::agrees(line, rule),
         Kind::Asks => asking::agrees(line),
         Kind::Decodes => decoding::agrees(line),
     }

@@ -1,19 +1,29 @@
-// A line with an image, and what sweeping it gives.
+// A line with an image, and what sweeping it by a rule gives.
 ghost use mathlib.Core.Path.{_≡_};
 ghost use lib.ListN.{length};
 ghost use Rattle.sweep.specs.Sweep.{Sweeps};
 ghost use Rattle.replay.specs.Verdict.{Tells};
-ghost use Rattle.replay.specs.Sweeping.{Whole, imageIn, sweptIn, places, Begins, Right};
+ghost use Rattle.replay.specs.Sweeping.{formOf, Whole, imageIn, placeIn, refusedIn, sweptIn, places, Begins, Right};
+ghost use Rattle.replay.specs.Form.{Has};
 use crate::form;
 use crate::hex;
+use sweep::Rule;
 use sweep::Swept;
 
-// Bytes given, at most sixteen; sixteen bytes; count, stopping place, refusal; a bit for each start.
-pub(crate) fn is_whole(line: &[u8]) -> bool
-    ensures { λ r. ⌜ Tells r (Whole (now (line .entry))) ⌝ }
+// Bytes given, at most sixteen; sixteen bytes; count, refused places or stopping place, refusal; a bit for each start.
+fn has_form(line: &[u8], rule: Rule) -> bool
+    ensures { λ r. ⌜ Tells r (Has (formOf rule) (now (line .entry))) ⌝ }
 {
-    let form = b"S################################## ## ## # ####\n";
-    if form::has(line, form) {
+    match rule {
+        Rule::GoOn => form::has(line, b"G################################## ## ## # ####\n"),
+        Rule::Stop => form::has(line, b"S################################## ## ## # ####\n"),
+    }
+}
+
+pub(crate) fn is_whole(line: &[u8], rule: Rule) -> bool
+    ensures { λ r. ⌜ Tells r (Whole rule (now (line .entry))) ⌝ }
+{
+    if has_form(line, rule) {
         return hex::byte_at(line, 1) <= 16;
     }
     false
@@ -45,15 +55,24 @@ fn are_bits(starts: &[u16], count: usize, bits: u16) -> bool
     left == 0
 }
 
+fn sweep_by(rule: Rule, image: &[u8], starts: &mut [u16]) -> Swept
+    ensures { λ r. ⌜ Sweeps rule (now (image .entry)) (now (starts .entry)) r (now (starts .exit)) ⌝ }
+{
+    match rule {
+        Rule::GoOn => sweep::sweep(image, starts),
+        Rule::Stop => sweep::sweep_stopping(image, starts),
+    }
+}
+
 // What the sweep says of the image that a line gives.
-fn swept(line: &[u8], starts: &mut [u16]) -> Swept
-    requires { ⌜ Whole (now line) ⌝ }
-    ensures { λ r. ⌜ Sweeps (imageIn (now (line .entry))) (now (starts .entry)) r (now (starts .exit)) ⌝ }
+fn swept(line: &[u8], rule: Rule, starts: &mut [u16]) -> Swept
+    requires { ⌜ Whole rule (now line) ⌝ }
+    ensures { λ r. ⌜ Sweeps rule (imageIn (now (line .entry))) (now (starts .entry)) r (now (starts .exit)) ⌝ }
 {
     let mut bytes = [0u8; 16];
     hex::read_bytes(line, 3, &mut bytes);
     let given = hex::byte_at(line, 1) as usize;
-    sweep::sweep(&bytes[..given], starts)
+    sweep_by(rule, &bytes[..given], starts)
 }
 
 fn same(x: Swept, y: Swept) -> bool
@@ -68,27 +87,52 @@ fn same(x: Swept, y: Swept) -> bool
     if x.place != y.place {
         return false;
     }
+    if x.refused != y.refused {
+        return false;
+    }
     true
 }
 
-fn swept_in(line: &[u8]) -> Swept
+// Going on, the place is the image's end, and the line tells how many were refused.
+fn place_in(line: &[u8], rule: Rule) -> usize
     requires { ⌜ length (now line) ≡ 49 ⌝ }
-    ensures { λ r. ⌜ r ≡ sweptIn (now (line .entry)) ⌝ }
+    ensures { λ r. ⌜ r ≡ placeIn rule (now (line .entry)) ⌝ }
+{
+    match rule {
+        Rule::GoOn => hex::byte_at(line, 1) as usize,
+        Rule::Stop => hex::byte_at(line, 39) as usize,
+    }
+}
+
+fn refused_in(line: &[u8], rule: Rule) -> usize
+    requires { ⌜ length (now line) ≡ 49 ⌝ }
+    ensures { λ r. ⌜ r ≡ refusedIn rule (now (line .entry)) ⌝ }
+{
+    match rule {
+        Rule::GoOn => hex::byte_at(line, 39) as usize,
+        Rule::Stop => 0,
+    }
+}
+
+fn swept_in(line: &[u8], rule: Rule) -> Swept
+    requires { ⌜ length (now line) ≡ 49 ⌝ }
+    ensures { λ r. ⌜ r ≡ sweptIn rule (now (line .entry)) ⌝ }
 {
     Swept {
         refusal: hex::digit_at(line, 42),
         count: hex::byte_at(line, 36) as usize,
-        place: hex::byte_at(line, 39) as usize,
+        place: place_in(line, rule),
+        refused: refused_in(line, rule),
     }
 }
 
-pub(crate) fn agrees(line: &[u8]) -> bool
-    requires { ⌜ Whole (now line) ⌝ }
-    ensures { λ r. ⌜ Tells r (Right (now (line .entry))) ⌝ }
+pub(crate) fn agrees(line: &[u8], rule: Rule) -> bool
+    requires { ⌜ Whole rule (now line) ⌝ }
+    ensures { λ r. ⌜ Tells r (Right rule (now (line .entry))) ⌝ }
 {
     let mut starts = [0u16; 16];
-    let s = swept(line, &mut starts);
-    if same(s, swept_in(line)) {
+    let s = swept(line, rule, &mut starts);
+    if same(s, swept_in(line, rule)) {
         return are_bits(&starts, s.count, hex::word_at(line, 44));
     }
     false

@@ -1,44 +1,75 @@
--- Document 01's sweep, read off the walk: the places of the accepted instructions, and where and why it stops.
-use Prim.Native.Nat.{ℕ, _+_}
+-- Document 01's sweep and request A1's, read off the walk by their rule: the accepted places, how many were refused and passed, and where
+-- and why it stops.
+use Prim.Native.Nat.{ℕ}
 use mathlib.Core.Path.{_≡_}
-use mathlib.Core.List.{List}
-use lib.ListN.{length, set}
+use mathlib.Core.Bool.{Bool, true, false}
+use mathlib.Core.List.{List, [], _∷_}
+use lib.ListN.{length}
 use lib.Dec.{ltb}
 use Rattle.laws.specs.Choice.{pick}
+use Rattle.laws.specs.Over.{over}
 use Rattle.rows.specs.Run.{decodeRows}
+use Rattle.sweep.specs.declared.Rule.{Rule}
 use Rattle.sweep.specs.declared.Swept.{Swept}
 use Rattle.sweep.specs.declared.step.Step.{Step}
-use Rattle.sweep.specs.declared.step.Step.the-variants as step
-use Rattle.sweep.specs.Walk.{Walk, last, more, stopping, walk}
+use Rattle.sweep.specs.declared.step.Step.the-variants.{End, Accepted, Refused}
+use Rattle.sweep.specs.Walk.{Walk, last, more, walk}
 
--- what is returned, and the list of starts as it is left
-pub record End : Type 0 where
-  pub swept : Swept
-  pub starts : List ℕ
+abbrev pub isAccepted : Step → Bool
+isAccepted End = false
+isAccepted (Accepted r t) = true
+isAccepted (Refused e t) = false
 
-abbrev pub ended : ℕ → ℕ → ℕ → List ℕ → End
-ended e n p ss = record { swept = record { refusal = e; count = n; place = p }; starts = ss }
+abbrev pub isRefused : Step → Bool
+isRefused End = false
+isRefused (Accepted r t) = false
+isRefused (Refused e t) = true
+
+-- the places from which a walk goes on and whose step is such, in their order
+abbrev pub places : (Step → Bool) → Walk → List ℕ
+places such (last p s) = []
+places such (more p s w) = pick (such s) (p ∷ places such w) (places such w)
+
+-- where a walk stops, and what stands there
+abbrev pub lastPlace : Walk → ℕ
+lastPlace (last p s) = p
+lastPlace (more p s w) = lastPlace w
+
+abbrev pub lastStep : Walk → Step
+lastStep (last p s) = s
+lastStep (more p s w) = lastStep w
 
 -- the end is no refusal
 abbrev pub refusalOf : Step → ℕ
-refusalOf step.End = 0
-refusalOf (step.Accepted r t) = 0
-refusalOf (step.Refused e t) = e
+refusalOf End = 0
+refusalOf (Accepted r t) = 0
+refusalOf (Refused e t) = e
 
--- with n places kept in ss before: an accepted place is kept
-abbrev pub keeping : Walk → ℕ → List ℕ → End
-keeping (last p s) n ss = ended (refusalOf s) n p ss
-keeping (more p step.End w) n ss = keeping w n ss
-keeping (more p (step.Accepted r t) w) n ss = keeping w (n + 1) (set ss n p)
-keeping (more p (step.Refused e t) w) n ss = keeping w n ss
+-- what is returned, and the list of starts as it is left
+pub record Outcome : Type 0 where
+  pub swept : Swept
+  pub starts : List ℕ
 
--- 7 for an image over 4,096 bytes, then 6 for fewer entries than bytes: 0 for count and place, no entry touched
-unfoldable pub whole : List ℕ → List ℕ → End
-whole bs ss =
-    pick (ltb 4096 (length bs)) (ended 7 0 0 ss)
-    (pick (ltb (length ss) (length bs)) (ended 6 0 0 ss) (keeping (walk decodeRows stopping bs 0) 0 ss))
+abbrev pub outcome : Swept → List ℕ → Outcome
+outcome r ss = record { swept = r; starts = ss }
+
+-- the starts are the accepted places, over the first entries; a place where the walk stops is not counted as refused
+abbrev pub outcomeOf : Walk → List ℕ → Outcome
+outcomeOf w ss =
+    outcome (record { refusal = refusalOf (lastStep w); count = length (places isAccepted w); place = lastPlace w; refused = length (places isRefused w) })
+    (over (places isAccepted w) ss)
+
+-- 0 for all but the refusal, no entry touched
+abbrev pub notSwept : ℕ → Swept
+notSwept e = record { refusal = e; count = 0; place = 0; refused = 0 }
+
+-- 7 for an image over 4,096 bytes, then 6 for fewer entries than bytes
+unfoldable pub whole : Rule → List ℕ → List ℕ → Outcome
+whole rule bs ss =
+    pick (ltb 4096 (length bs)) (outcome (notSwept 7) ss)
+    (pick (ltb (length ss) (length bs)) (outcome (notSwept 6) ss) (outcomeOf (walk decodeRows rule bs 0) ss))
 
 -- the promise: what is returned, and every entry of the starts as it is left
-pub record Sweeps (image starts : List ℕ) (r : Swept) (after : List ℕ) : Type 0 where
-  pub returned : r ≡ whole image starts .swept
-  pub kept : after ≡ whole image starts .starts
+pub record Sweeps (rule : Rule) (image starts : List ℕ) (r : Swept) (after : List ℕ) : Type 0 where
+  pub returned : r ≡ whole rule image starts .swept
+  pub kept : after ≡ whole rule image starts .starts

@@ -1,10 +1,12 @@
--- Document 01, the sweep: what stands at a place of an image, and a walk from place to place.
+-- Document 01, the sweep, and request A1: what stands at a place of an image, and a walk from place to place by a rule.
 use Prim.Native.Nat.{ℕ, zero, suc, _+_, _-_}
 use mathlib.Core.List.{List}
 use lib.ListN.{length, drop}
 use lib.Dec.{leb, eqb}
 use Rattle.laws.specs.Choice.{pick}
 use Rattle.record.specs.declared.Answer.{Answer}
+use Rattle.sweep.specs.declared.Rule.{Rule}
+use Rattle.sweep.specs.declared.Rule.the-variants.{GoOn, Stop}
 use Rattle.sweep.specs.declared.step.Step.{Step}
 use Rattle.sweep.specs.declared.step.Step.the-variants.{End, Accepted, Refused}
 
@@ -26,23 +28,24 @@ pub data Onward : Type 0 where
   stop : Onward
   on : ℕ → Onward
 
--- a rule says so of refused places: document 01's stops
-abbrev pub stopping : ℕ → Onward
-stopping p = stop
+-- request A1: a refused place leads one byte on; document 01's rule stops at it
+abbrev pub pastRefused : Rule → ℕ → Onward
+pastRefused GoOn p = on (p + 1)
+pastRefused Stop p = stop
 
--- by any rule: the bytes taken lead from an accepted place to the next
-abbrev pub onward : (ℕ → Onward) → ℕ → Step → Onward
+-- the bytes taken lead from an accepted place to the next, by both rules
+abbrev pub onward : Rule → ℕ → Step → Onward
 onward rule p End = stop
 onward rule p (Accepted r t) = on (p + t)
-onward rule p (Refused e t) = rule p
+onward rule p (Refused e t) = pastRefused rule p
 
 -- a place and its step, and the walk from where it leads
 abbrev pub visit : ℕ → Step → Onward → (ℕ → Walk) → Walk
 visit p s stop walk = last p s
 visit p s (on q) walk = more p s (walk q)
 
--- by any reading and any rule
-module _ (reading : List ℕ → Answer) (rule : ℕ → Onward) (bs : List ℕ) where
+-- by any reading
+module _ (reading : List ℕ → Answer) (rule : Rule) (bs : List ℕ) where
   -- with at most so many places visited before the end
   unfoldable pub go : ℕ → ℕ → Walk
   go zero p = last p End

@@ -1,34 +1,30 @@
 -- `listing::page::fill_lines` meets its contract. The loop's invariant: what is filled, and what is listed from the place on, are what was asked for.
 -- Assumes nothing.
-use Prim.Native.Nat.{ℕ, _+_, _*_, _-_, _≤_}
+use Prim.Native.Nat.{ℕ, _+_, _*_, _-_, _≤_, _<_}
 use mathlib.Core.Path.{_≡_, refl, sym, ap, _∙_}
-use mathlib.Core.List.{List, [], _∷_, _++_}
-use mathlib.Core.Logic.{inl, inr}
+use mathlib.Core.List.{List, _++_}
 use native.Mathlib.Omega.{arith}
 use lib.ListN.{length, take, length-drop}
-use types.Run.{OneOf}
-use denote.Enum.Declared.{tagOf}
 use borrow.Author.Needs.{needs}
 use Rattle.laws.proofs.Rest.{rest}
 use Rattle.sweep.specs.declared.step.Step.{Step}
-use Rattle.sweep.specs.declared.step.Step.the-variants.{End, Accepted, Refused}
-use Rattle.sweep.specs.Walk.{stop, stopping, onward}
-use Rattle.sweep.proofs.Walk.{Told, told, by-rows}
-use Rattle.sweep.proofs.step.Step as declared
+use Rattle.sweep.specs.Walk.{Onward, on, onward}
+use Rattle.sweep.proofs.Walk.{Told, told, bytes-left, further, by-rows}
 use Rattle.laws.proofs.Over.{written-length}
+use Rattle.listing.specs.declared.page.Next.the-variants.{From}
 use Rattle.listing.specs.Listing.{lineAt, listed}
 use Rattle.listing.proofs.Lines.{line-room, from-here}
-use Rattle.listing.proofs.Pages.{line-more, line-last}
+use Rattle.listing.proofs.Pages.{leads, stops, line-more, line-last}
 use Rattle.listing.proofs.page.fill_lines.Statement.{statement}
 use Rattle.listing.proofs.page.fill_lines.Tie as tie
 
 abbrev Inv-loop : tie.InvT-loop
-Inv-loop image from out₀ at₀ place₀ out at place =
+Inv-loop rule image from out₀ at₀ place₀ out at place =
     (at ≤ length out) × (length out ≡ length out₀) × (from ≤ place) × (place ≤ from + (length image - from)) × (at ≤ 121 * (place - from))
-    × (take at out ++ listed image place ≡ listed image from)
+    × (take at out ++ listed rule image place ≡ listed rule image from)
 
 abbrev μ-loop : tie.MeasureT-loop
-μ-loop image from out₀ at₀ place₀ out at place = length image - place
+μ-loop rule image from out₀ at₀ place₀ out at place = length image - place
 
 loop-holds : tie.Need-loop-holds Inv-loop μ-loop
 loop-holds c = (omega arith, refl, omega arith, omega arith, omega arith, refl)
@@ -45,8 +41,8 @@ Put = tie.After-put-line Inv-loop μ-loop
 abbrev turn : Put → tie.At-loop Inv-loop μ-loop
 turn p = p .before .before .before .before
 
-abbrev image : Put → List ℕ
-image p = turn p .before .before .before .args .image .now
+abbrev start : Put → tie.Start Inv-loop μ-loop
+start p = turn p .before .before .before
 
 abbrev here : Put → Step
 here p = p .before .before .step-at .result
@@ -57,55 +53,67 @@ line p = lineAt (turn p .loop .place) (here p)
 room : (p : Put) → length (line p) ≤ 121
 room p = line-room (turn p .loop .place) (here p)
 
-lies : (p : Put) {s : Step} → here p ≡ s → Told (image p) (turn p .loop .place) s
-lies p e = told by-rows (image p) (turn p .loop .place) (sym e ∙ p .before .before .step-at .ensures)
+lies : (p : Put) → Told (start p .args .image .now) (turn p .loop .place) (here p)
+lies p = told by-rows (start p .args .image .now) (turn p .loop .place) (p .before .before .step-at .ensures)
 
 add-at : tie.Need-add-at Inv-loop μ-loop
 add-at c = let p = c .before .before in omega (arith, p .put-line .ensures .0, room p)
 
-add-place : tie.Need-add-place Inv-loop μ-loop
-add-place c = let p = c .before .before .before .before .before in omega (arith, lies p (c .before .here .given .1))
+behind-requires : tie.Need-behind-requires Inv-loop μ-loop
+behind-requires c κs = let p = c .before .before in omega (arith, bytes-left (start p .args .image .now) (turn p .loop .place) (here p) (lies p))
+
+-- where the line leads
+abbrev Asked : Type 0
+Asked = tie.After-behind Inv-loop μ-loop
+
+abbrev put : Asked → Put
+put a = a .before .before .before
+
+abbrev onwards : Asked → Onward
+onwards a = onward (start (put a) .args .rule) (turn (put a) .loop .place) (here (put a))
+
+-- on at q, which lies behind
+abbrev next : {q : ℕ} (a : Asked) → a .behind .result ≡ From q → onwards a ≡ on q
+next a e = leads (onwards a) (sym (a .behind .ensures) ∙ e)
+
+lies-behind : {q : ℕ} (a : Asked) → a .behind .result ≡ From q → (turn (put a) .loop .place < q) × (q ≤ length (start (put a) .args .image .now))
+lies-behind {q} a e = further by-rows (start (put a) .args .image .now) (start (put a) .args .rule) (turn (put a) .loop .place) q (here (put a)) (lies (put a)) (next a e)
 
 loop-less : tie.Need-loop-less Inv-loop μ-loop
-loop-less c = let p = c .before .before .before .before .before in omega (arith, lies p (c .before .here .given .1))
+loop-less c = let a = c .before .before .before in omega (arith, lies-behind a (c .before .q .given .1))
 
 loop-again : tie.Need-loop-again Inv-loop μ-loop
 loop-again c =
-    let p = c .before .before .before .before .before in
+    let a = c .before .before .before in
+    let p = put a in
     let l = turn p .loop in
     let n = p .put-line .ensures in
     let k = written-length (l .at) (l .out) (line p) (omega (arith, room p)) (n .1) in
-    let t = lies p (c .before .here .given .1) in (
+    let t = lies-behind a (c .before .q .given .1) in (
       omega (arith, n .0, room p),
       k ∙ l .inv .1,
       omega arith,
       omega arith,
       omega (arith, n .0, room p),
       line-more (l .at) (l .out) (line p) (omega (arith, room p)) n _
-          (from-here (image p) (l .place) (p .before .before .step-at .ensures) (ap (onward stopping (l .place)) (c .before .here .given .1))) (l .inv .5),
+          (from-here (start p .args .rule) (start p .args .image .now) (l .place) (p .before .before .step-at .ensures) (next a (c .before .q .given .1))) (l .inv .5),
     )
-
--- a walk stops at the steps that are not accepted
-ends : (p : ℕ) (s : Step) → OneOf (0 ∷ 2 ∷ []) (tagOf declared.the-type s) → onward stopping p s ≡ stop
-ends p End h = refl
-ends p (Accepted r t) (inl e) = absurd (omega arith)
-ends p (Accepted r t) (inr e) = absurd (omega arith)
-ends p (Refused e t) h = refl
 
 same-length : tie.Need-same-length Inv-loop μ-loop
 same-length c =
-    let p = c .before .before .before in
+    let p = put (c .before) in
     let l = turn p .loop in
     written-length (l .at) (l .out) (line p) (omega (arith, room p)) (p .put-line .ensures .1) ∙ l .inv .1
 
 returns : tie.Need-returns Inv-loop μ-loop
 returns c =
-    let p = c .before .before .before in
+    let a = c .before in
+    let p = put a in
     let l = turn p .loop in
     let n = p .put-line .ensures in
     record {
       same = line-last (l .at) (l .out) (line p) (omega (arith, room p)) n
-          (from-here (image p) (l .place) (p .before .before .step-at .ensures) (ends (l .place) (here p) (c .match .keys2))) (l .inv .5);
+          (from-here (start p .args .rule) (start p .args .image .now) (l .place) (p .before .before .step-at .ensures) (stops (onwards a) (a .behind .ensures) (c .match .keys2))) (l .inv .5);
       inside = omega (arith, n .0, room p);
       onward = λ h e. omega arith;
     }
@@ -120,4 +128,4 @@ pub fill-lines-spec : {M : Type 1} → statement M
 fill-lines-spec =
     tie.close
     (tie.spec Inv-loop μ-loop loop-holds (λ c. search needs) (λ c κs. search needs) (λ c. search needs) (λ c. search needs) (λ c. search needs)
-    put-line-requires add-at (λ c. search needs) add-place loop-less loop-again same-length returns same-length-2 returns-2)
+    put-line-requires add-at behind-requires (λ c. search needs) loop-less loop-again same-length returns same-length-2 returns-2)

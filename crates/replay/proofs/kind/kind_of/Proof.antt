@@ -26,10 +26,19 @@ returns-3 : tie.Need-returns-3
 returns-3 c = rw (ne-eqb _ 69 (c .before .before .if2 .left), eq-eqb _ 83 (c .if3 .taken))
 
 returns-4 : tie.Need-returns-4
-returns-4 c = rw (ne-eqb _ 69 (c .before .before .before .before .if2 .left), ne-eqb _ 83 (c .before .before .if3 .left), eq-eqb _ 78 (c .if4 .taken))
+returns-4 c = rw (ne-eqb _ 69 (c .before .before .before .before .if2 .left), ne-eqb _ 83 (c .before .before .if3 .left), eq-eqb _ 71 (c .if4 .taken))
 
 returns-5 : tie.Need-returns-5
-returns-5 c = rw (ne-eqb _ 69 (c .before .before .before .before .if2 .left), ne-eqb _ 83 (c .before .before .if3 .left), ne-eqb _ 78 (c .if4 .left))
+returns-5 c =
+    let g = c .before .before in
+    let s = g .before .before in
+    rw (ne-eqb _ 69 (s .before .before .if2 .left), ne-eqb _ 83 (s .if3 .left), ne-eqb _ 71 (g .if4 .left), eq-eqb _ 78 (c .if5 .taken))
+
+returns-6 : tie.Need-returns-6
+returns-6 c =
+    let g = c .before .before in
+    let s = g .before .before in
+    rw (ne-eqb _ 69 (s .before .before .if2 .left), ne-eqb _ 83 (s .if3 .left), ne-eqb _ 71 (g .if4 .left), ne-eqb _ 78 (c .if5 .left))
 
 pub kind-of-spec : {M : Type 1} → statement M
-kind-of-spec = tie.close (tie.spec returns (λ c. search needs) returns-2 (λ c. search needs) returns-3 (λ c. search needs) returns-4 returns-5)
+kind-of-spec = tie.close (tie.spec returns (λ c. search needs) returns-2 (λ c. search needs) returns-3 (λ c. search needs) returns-4 (λ c. search needs) returns-5 returns-6)

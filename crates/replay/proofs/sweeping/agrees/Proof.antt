@@ -22,13 +22,13 @@ returns c =
     let swept = compared .before .before .before in
     let line = swept .before .before .before .args .line .now in
     let same = compared .same .ensures .0 (c .before .before .before .if1 .taken) ∙ said in
-    (λ e. right line (swept .swept .ensures) same (rw word at (bits .0 e)), λ h. bits .1 (rw word (begins line (swept .swept .ensures) h)))
+    (λ e. right _ line (swept .swept .ensures) same (rw word at (bits .0 e)), λ h. bits .1 (rw word (begins _ line (swept .swept .ensures) h)))
 
 returns-2 : tie.Need-returns-2
 returns-2 c =
     let swept = c .before .before .before .before in
     let line = swept .before .before .before .args .line .now in
-    refuted (λ h. untold (c .before .same .ensures) (c .if1 .left) (returned line (swept .swept .ensures) h ∙ sym (c .before .before .swept-in .ensures)))
+    refuted (λ h. untold (c .before .same .ensures) (c .if1 .left) (returned _ line (swept .swept .ensures) h ∙ sym (c .before .before .swept-in .ensures)))
 
 pub agrees-spec : {M : Type 1} → statement M
 agrees-spec = tie.close (tie.spec (λ c. search needs) (λ c κs. search needs) swept-in-requires (λ c κs. search needs) (λ c. search needs) word-at-requires (λ c κs. search needs) returns returns-2)

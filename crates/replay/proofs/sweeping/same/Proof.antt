@@ -15,7 +15,18 @@ returns-3 : tie.Need-returns-3
 returns-3 c = refuted (λ e. c .if3 .taken (ap (λ s. s .place) e))
 
 returns-4 : tie.Need-returns-4
-returns-4 c = (λ e i. record { refusal = c .before .before .before .before .before .before .if1 .left i; count = c .before .before .before .if2 .left i; place = c .if3 .left i }, λ e. refl)
+returns-4 c = refuted (λ e. c .if4 .taken (ap (λ s. s .refused) e))
+
+returns-5 : tie.Need-returns-5
+returns-5 c = (
+  λ e i. record {
+    refusal = c .before .before .before .before .before .before .before .before .before .if1 .left i;
+    count = c .before .before .before .before .before .before .if2 .left i;
+    place = c .before .before .before .if3 .left i;
+    refused = c .if4 .left i;
+  },
+  λ e. refl,
+)
 
 pub same-spec : {M : Type 1} → statement M
-same-spec = tie.close (tie.spec returns returns-2 returns-3 returns-4)
+same-spec = tie.close (tie.spec returns returns-2 returns-3 returns-4 returns-5)

@@ -1,0 +1,51 @@
+-- The places that a walk visits, by any reading: each is what stands there, they rise, and they are counted.
+-- Assumes nothing.
+use Prim.Native.Nat.{ℕ, _+_, _≤_, _<_}
+use mathlib.Core.Path.{_≡_, subst}
+use mathlib.Core.List.{List}
+use native.Mathlib.Omega.{arith}
+use lib.ListN.{length}
+use Rattle.record.specs.declared.Answer.{Answer}
+use Rattle.sweep.specs.declared.Rule.{Rule}
+use Rattle.sweep.specs.declared.step.Step.{Step}
+use Rattle.sweep.specs.declared.step.Step.the-variants.{End, Accepted, Refused}
+use Rattle.sweep.specs.Walk.{stepAt, Walk, last, more, stop, on, onward, walk}
+use Rattle.sweep.specs.Sweep.{isAccepted, isRefused, places, lastStep}
+use Rattle.sweep.specs.Visits.{Visits, at-last, here, later, Rises, one, then, decodingsAt, decodings}
+use Rattle.sweep.proofs.Walk.{Advances, told, further, along}
+
+-- the accepted places, those refused and passed, and the one where the walk stops if it was decoded
+pub counted : (w : Walk) → decodings w ≡ length (places isAccepted w) + length (places isRefused w) + decodingsAt (lastStep w)
+counted (last p s) = omega arith
+counted (more p End w) = omega (arith, counted w)
+counted (more p (Accepted r t) w) = omega (arith, counted w)
+counted (more p (Refused e t) w) = omega (arith, counted w)
+
+module _ {reading : List ℕ → Answer} (advances : Advances reading) (bs : List ℕ) (rule : Rule) where
+  pub stands-there : (p q : ℕ) (s : Step) → Visits (walk reading rule bs p) q s → s ≡ stepAt reading bs q
+  stands-there = along advances bs rule (λ p w. (q : ℕ) (s : Step) → Visits w q s → s ≡ stepAt reading bs q) stops leads
+    where
+      stops : (p : ℕ) (s : Step) → s ≡ stepAt reading bs p → onward rule p s ≡ stop → (q : ℕ) (t : Step) → Visits (last p s) q t → t ≡ stepAt reading bs q
+      stops p s e o q t at-last = e
+
+      leads : (p q : ℕ) (s : Step) (w : Walk) → w ≡ walk reading rule bs q → s ≡ stepAt reading bs p → onward rule p s ≡ on q → ((k : ℕ) (t : Step) → Visits w k t → t ≡ stepAt reading bs k)
+          → (k : ℕ) (t : Step) → Visits (more p s w) k t → t ≡ stepAt reading bs k
+      leads p q s w u e o h k t here = e
+      leads p q s w u e o h k t (later v) = h k t v
+
+  pub from-there : (p q : ℕ) (s : Step) → Visits (walk reading rule bs p) q s → p ≤ q
+  from-there = along advances bs rule (λ p w. (q : ℕ) (s : Step) → Visits w q s → p ≤ q) stops leads
+    where
+      stops : (p : ℕ) (s : Step) → s ≡ stepAt reading bs p → onward rule p s ≡ stop → (q : ℕ) (t : Step) → Visits (last p s) q t → p ≤ q
+      stops p s e o q t at-last = omega arith
+
+      leads : (p q : ℕ) (s : Step) (w : Walk) → w ≡ walk reading rule bs q → s ≡ stepAt reading bs p → onward rule p s ≡ on q → ((k : ℕ) (t : Step) → Visits w k t → q ≤ k)
+          → (k : ℕ) (t : Step) → Visits (more p s w) k t → p ≤ k
+      leads p q s w u e o h k t here = omega arith
+      leads p q s w u e o h k t (later v) = omega (arith, h k t v, further advances bs rule p q s (told advances bs p e) o)
+
+  pub rises : (p : ℕ) → Rises (walk reading rule bs p)
+  rises = along advances bs rule (λ p w. Rises w) (λ p s e o. one) (λ p q s w u e o h. then (behind p q s w u e o) h)
+    where
+      behind : (p q : ℕ) (s : Step) (w : Walk) → w ≡ walk reading rule bs q → s ≡ stepAt reading bs p → onward rule p s ≡ on q → (k : ℕ) (t : Step) → Visits w k t → p < k
+      behind p q s w u e o k t v = omega (arith, from-there q k t (subst (λ z. Visits z k t) u v), further advances bs rule p q s (told advances bs p e) o)

@@ -1,0 +1,121 @@
+-- `sweep::sweep_by` meets its contract: what is still to be swept from here is what was to be swept from 0.
+-- Assumes nothing.
+use Prim.Native.Nat.{ℕ, _+_, _-_, _≤_, _<_}
+use mathlib.Core.Path.{_≡_, refl, sym, ap, _∙_}
+use mathlib.Core.List.{List}
+use native.Mathlib.Omega.{arith}
+use lib.ListN.{length}
+use borrow.Author.Needs.{needs}
+use borrow.Author.Tests.{lt-ltb, le-ltb}
+use Rattle.rows.specs.Run.{decodeRows}
+use Rattle.sweep.specs.declared.Rule.{Rule}
+use Rattle.sweep.specs.declared.Rule.the-variants.{Stop}
+use Rattle.sweep.specs.declared.Swept.{Swept}
+use Rattle.sweep.specs.Walk.{walk}
+use Rattle.sweep.specs.Sweep.{outcome, notSwept, whole, Sweeps}
+use Rattle.sweep.specs.steps.Before.{outcomeIn, behind}
+use Rattle.sweep.proofs.Walk.{by-rows}
+use Rattle.sweep.proofs.Before.{none-before}
+use Rattle.sweep.proofs.Runs.{Continues, continues}
+use Rattle.sweep.proofs.sweep_by.Statement.{statement}
+use Rattle.sweep.proofs.sweep_by.Tie as tie
+
+module _ (rule : Rule) (bs ss : List ℕ) where
+  -- an outcome that is the whole answer keeps the promise
+  sweeps : {r : Swept} {after : List ℕ} → outcome r after ≡ whole rule bs ss → Sweeps rule bs ss r after
+  sweeps e = record { returned = ap (λ x. x .swept) e; kept = ap (λ x. x .starts) e }
+
+  too-long : {r : Swept} → 4096 < length bs → r ≡ notSwept 7 → Sweeps rule bs ss r ss
+  unfolding whole
+  too-long h e = sweeps (rw (lt-ltb _ _ h) (ap (λ x. outcome x ss) e))
+
+  no-room : {r : Swept} → length bs ≤ 4096 → length ss < length bs → r ≡ notSwept 6 → Sweeps rule bs ss r ss
+  unfolding whole
+  no-room h g e = sweeps (rw (le-ltb _ _ h, lt-ltb _ _ g) (ap (λ x. outcome x ss) e))
+
+  begun : length bs ≤ 4096 → length bs ≤ length ss → behind (walk decodeRows rule bs 0) 0 0 ss ≡ whole rule bs ss
+  unfolding whole
+  begun h g = rw (le-ltb _ _ h, le-ltb _ _ g) (none-before (walk decodeRows rule bs 0) ss)
+
+abbrev Inv-loop : tie.InvT-loop
+Inv-loop rule image starts₀ count₀ place₀ refused₀ starts count place refused =
+    (count + refused ≤ place) × (place ≤ length image) × (length starts ≡ length starts₀) × (rule ≡ Stop → refused ≡ 0)
+    × (behind (walk decodeRows rule image place) count refused starts ≡ whole rule image starts₀)
+
+abbrev μ-loop : tie.MeasureT-loop
+μ-loop rule image starts₀ count₀ place₀ refused₀ starts count place refused = length image - place
+
+returns : tie.Need-returns Inv-loop μ-loop
+returns c = too-long _ _ _ (omega arith) (c .not-swept .ensures)
+
+returns-2 : tie.Need-returns-2 Inv-loop μ-loop
+returns-2 c = no-room _ _ _ (omega arith) (omega arith) (c .not-swept2 .ensures)
+
+loop-holds : tie.Need-loop-holds Inv-loop μ-loop
+loop-holds c = (omega arith, omega arith, refl, λ e. refl, begun _ _ _ (omega arith) (omega arith))
+
+run-requires : tie.Need-run-requires Inv-loop μ-loop
+run-requires c κs = (omega arith, omega (arith, c .before .loop .inv .2), omega arith, omega arith)
+
+-- a turn that ran: what becomes of the rest of the sweep
+module _ (d : tie.After-run Inv-loop μ-loop) where
+  abbrev turn : tie.At-loop Inv-loop μ-loop
+  turn = d .before .before
+
+  abbrev given : tie.Start Inv-loop μ-loop
+  given = turn .before .before .before .before .before
+
+  room : turn .loop .count + (length (given .args .image .now) - turn .loop .place) ≤ length (turn .loop .starts)
+  room = omega (arith, turn .loop .inv .2)
+
+  goes-on : let r = d .run .result in
+      Continues (given .args .rule) (walk decodeRows (given .args .rule) (given .args .image .now)) (given .args .image .now)
+      (whole (given .args .rule) (given .args .image .now) (given .args .starts .now)) (turn .loop .refused) (r .refusal) (r .count) (r .place) (d .run .last .1 .1 .0)
+  goes-on =
+      let l = turn .loop in
+      continues by-rows (given .args .image .now) (given .args .rule) (l .place) (l .count) (l .refused) (l .starts) room (d .run .ensures .walked) (l .inv .4)
+
+same-length : tie.Need-same-length Inv-loop μ-loop
+same-length c = let d = c .before .before .before .before in d .run .ensures .long ∙ turn d .loop .inv .2
+
+returns-3 : tie.Need-returns-3 Inv-loop μ-loop
+returns-3 c = let d = c .before .before .before .before in sweeps _ _ _ (goes-on d .ended (c .if3 .taken))
+
+same-length-2 : tie.Need-same-length-2 Inv-loop μ-loop
+same-length-2 c = let d = c .before .before .before .before .before .before in d .run .ensures .long ∙ turn d .loop .inv .2
+
+returns-4 : tie.Need-returns-4 Inv-loop μ-loop
+returns-4 c =
+    let d = c .before .before .before .before .before .before in
+    let r = d .run .result in
+    let stop = c .enum-told .given .1 in
+    sweeps _ _ _ (ap (λ m. outcomeIn (r .refusal) (r .count) (r .place) m (d .run .last .1 .1 .0)) (sym (turn d .loop .inv .3 stop)) ∙ goes-on d .stopped stop)
+
+loop-again : tie.Need-loop-again Inv-loop μ-loop
+loop-again c =
+    let d = c .before .before .before .before .before .before .before in
+    let refused = c .before .before .before .if3 .left in
+    let on = c .before .enum-told2 .given .1 in (
+      omega (arith, d .run .ensures .few),
+      omega (arith, goes-on d .inside refused),
+      d .run .ensures .long ∙ turn d .loop .inv .2,
+      λ stop. absurd (let z : _≡_ {A = ℕ} 0 1 = cc in omega arith),
+      goes-on d .passed on refused,
+    )
+
+loop-less : tie.Need-loop-less Inv-loop μ-loop
+loop-less c =
+    let d = c .before .before .before .before .before .before .before in
+    omega (arith, goes-on d .inside (c .before .before .before .if3 .left), d .run .ensures .ahead)
+
+add-place : tie.Need-add-place Inv-loop μ-loop
+add-place c = omega (arith, c .before .before .before .before .before .before .before .run .ensures .inside)
+
+add-refused : tie.Need-add-refused Inv-loop μ-loop
+add-refused c = omega arith
+
+pub sweep-by-spec : {M : Type 1} → statement M
+sweep-by-spec =
+    tie.close
+    (tie.spec Inv-loop μ-loop (λ c κs. search needs) returns (λ c κs. search needs) returns-2 loop-holds run-requires same-length returns-3 (λ c. search needs)
+    same-length-2 returns-4 (λ c. search needs) add-place add-refused loop-less loop-again)
