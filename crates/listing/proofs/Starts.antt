@@ -16,7 +16,7 @@ use Rattle.sweep.specs.declared.step.Step.{Step}
 use Rattle.sweep.specs.declared.step.Step.the-variants.{End, Accepted, Refused}
 use Rattle.sweep.specs.Walk.{Walk, more, stepAt, on, onward, walk}
 use Rattle.sweep.specs.Sweep.{isAccepted, isRefused, places, lastPlace, whole}
-use Rattle.sweep.proofs.Walk.{along, by-rows}
+use Rattle.sweep.proofs.Walk.{never, along, by-rows}
 use Rattle.sweep.proofs.Rules.{passes-starts}
 use Rattle.sweep.proofs.Answers.{walked}
 use Rattle.listing.specs.Listing.{lineAt, textOf, listed, listing}
@@ -38,7 +38,7 @@ a-line-each rule bs = along by-rows bs rule (λ p w. length (places (λ s. true)
     leads : (p q : ℕ) (s : Step) (w : Walk) → w ≡ walk decodeRows rule bs q → s ≡ stepAt decodeRows bs p → onward rule p s ≡ on q
         → length (places (λ s. true) w) ≡ length (places isAccepted w) + length (places isRefused w)
         → length (places (λ s. true) (more p s w)) ≡ length (places isAccepted (more p s w)) + length (places isRefused (more p s w))
-    leads p q End w u e o h = absurd (let z : _≡_ {A = ℕ} 0 1 = cc in omega arith)
+    leads p q End w u e o h = absurd (never o)
     leads p q (Accepted r t) w u e o h = omega (arith, h)
     leads p q (Refused x t) w u e o h = omega (arith, h)
 

@@ -1,7 +1,7 @@
 -- What the laws of walks say of a sweep's answer, by document 01's rows.
 -- Assumes nothing.
 use Prim.Native.Nat.{ℕ, _+_, _≤_}
-use mathlib.Core.Path.{_≡_, refl, sym, ap, _∙_}
+use mathlib.Core.Path.{_≡_, refl, ap}
 use mathlib.Core.Bool.{Bool, true, false}
 use mathlib.Core.List.{List}
 use native.Mathlib.Omega.{arith}
@@ -25,13 +25,14 @@ module _ (bs ss : List ℕ) (h : length bs ≤ 4096) (g : length bs ≤ length s
   unfolding whole
   walked rule = rw (le-ltb _ _ h, le-ltb _ _ g)
 
-  -- going on comes to the image's end, and counts each decoding once
-  pub goes-on : let r = whole GoOn bs ss .swept in (r .refusal ≡ 0) × (r .place ≡ length bs) × (r .count + r .refused ≡ decodings (walk decodeRows GoOn bs 0))
+  -- going on comes to the image's end, and counts each decoding once; the bytes of starts and refused places are those of the image
+  pub goes-on : let r = whole GoOn bs ss .swept in let w = walk decodeRows GoOn bs 0 in
+      (r .refusal ≡ 0) × (r .place ≡ length bs) × (r .count + r .refused ≡ decodings w) × (bytesIn w ≡ length bs)
   goes-on =
       let e = to-the-end by-rows bs 0 (omega arith) in
       let w = walk decodeRows GoOn bs 0 in
       let none : decodingsAt (lastStep w) ≡ 0 = ap decodingsAt (e .1) in
-      rw (walked GoOn) (ap refusalOf (e .1), e .0, omega (arith, counted w, none))
+      rw (walked GoOn) (ap refusalOf (e .1), e .0, omega (arith, counted w, none), omega (arith, bytes-add-up by-rows bs 0 (omega arith)))
 
 -- stopping counts no refused place, whatever it is given
 pub stops-at-once : (bs ss : List ℕ) → whole Stop bs ss .swept .refused ≡ 0

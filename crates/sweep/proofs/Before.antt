@@ -1,22 +1,20 @@
 -- How a step, and how a run of them, moves the outcome on that a walk has with starts kept and refused places passed before it.
 -- Assumes nothing.
 use Prim.Native.Nat.{ℕ, _+_, _-_, _≤_, _<_}
-use mathlib.Core.Path.{_≡_, refl, sym, ap, _∙_}
+use mathlib.Core.Path.{_≡_, refl, ap, _∙_}
 use mathlib.Core.Bool.{true}
-use mathlib.Core.List.{List, _∷_}
+use mathlib.Core.List.{List}
 use native.Mathlib.Omega.{arith}
-use lib.ListN.{length, set, length-set}
-use Rattle.laws.specs.Over.{put}
+use lib.ListN.{length, set}
 use Rattle.laws.proofs.Over.{put-none, put-one}
 use Rattle.record.specs.declared.Answer.{Answer}
 use Rattle.sweep.specs.declared.Rule.{Rule}
-use Rattle.sweep.specs.declared.Rule.the-variants.{GoOn, Stop}
 use Rattle.sweep.specs.declared.step.Step.{Step}
 use Rattle.sweep.specs.declared.step.Step.the-variants.{End, Accepted, Refused}
-use Rattle.sweep.specs.Walk.{stepAt, Walk, last, more, Onward, stop, on, onward, visit, walk}
-use Rattle.sweep.specs.Sweep.{isAccepted, places, lastPlace, lastStep, refusalOf, Outcome, outcomeOf}
+use Rattle.sweep.specs.Walk.{stepAt, Walk, Onward, stop, on, onward, visit, walk}
+use Rattle.sweep.specs.Sweep.{isAccepted, places, refusalOf, Outcome, outcomeOf}
 use Rattle.sweep.specs.steps.Before.{outcomeIn, behind}
-use Rattle.sweep.proofs.Walk.{Advances, Told, told, accepted-inside, turned, along}
+use Rattle.sweep.proofs.Walk.{Advances, told, accepted-inside, turned}
 
 alike : {e n k p m l : ℕ} {ss ts : List ℕ} → n ≡ k → m ≡ l → ss ≡ ts → outcomeIn e n p m ss ≡ outcomeIn e k p l ts
 alike {e = e} {p = p} a b c i = outcomeIn e (a i) p (b i) (c i)

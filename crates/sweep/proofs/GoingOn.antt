@@ -13,22 +13,22 @@ use Rattle.record.specs.declared.Answer.{Answer}
 use Rattle.sweep.specs.declared.Rule.the-variants.{GoOn}
 use Rattle.sweep.specs.declared.step.Step.{Step}
 use Rattle.sweep.specs.declared.step.Step.the-variants.{End, Accepted, Refused}
-use Rattle.sweep.specs.Walk.{stepAt, Walk, last, more, stop, on, onward, walk}
+use Rattle.sweep.specs.Walk.{stepAt, Walk, more, stop, on, onward, walk}
 use Rattle.sweep.specs.Sweep.{lastPlace, lastStep}
-use Rattle.sweep.specs.Visits.{Visits, at-last, here, later, bytesOf, Belongs, InOne, Inside, bytesIn}
-use Rattle.sweep.proofs.Walk.{Advances, Told, told, further, along}
-use Rattle.sweep.proofs.Places.{stands-there, from-there}
+use Rattle.sweep.specs.Visits.{Visits, here, later, bytesOf, Belongs, InOne, Inside, bytesIn}
+use Rattle.sweep.proofs.Walk.{Advances, never, Told, told, further, along}
+use Rattle.sweep.proofs.Places.{visited}
 
 -- a step leads behind its bytes, but for the image's end
 behind-bytes : (p q : ℕ) (s : Step) → onward GoOn p s ≡ on q → q ≡ p + bytesOf s
-behind-bytes p q End e = absurd (let z : _≡_ {A = ℕ} 0 1 = cc in omega arith)
+behind-bytes p q End e = absurd (never e)
 behind-bytes p q (Accepted r t) e = let z : p + t ≡ q = cc in sym z
 behind-bytes p q (Refused x t) e = let z : p + 1 ≡ q = cc in sym z
 
 stops-at-end : (p : ℕ) (s : Step) → onward GoOn p s ≡ stop → s ≡ End
 stops-at-end p End e = refl
-stops-at-end p (Accepted r t) e = absurd (let z : _≡_ {A = ℕ} 0 1 = cc in omega arith)
-stops-at-end p (Refused x t) e = absurd (let z : _≡_ {A = ℕ} 0 1 = cc in omega arith)
+stops-at-end p (Accepted r t) e = absurd (never (sym e))
+stops-at-end p (Refused x t) e = absurd (never (sym e))
 
 module _ {reading : List ℕ → Answer} (advances : Advances reading) (bs : List ℕ) where
   ends : (p : ℕ) (s : Step) → s ≡ stepAt reading bs p → onward GoOn p s ≡ stop → (s ≡ End) × (length bs ≤ p)
@@ -61,7 +61,7 @@ module _ {reading : List ℕ → Answer} (advances : Advances reading) (bs : Lis
 
           only-here : b < q → (k : ℕ) (t : Step) → Visits (more p s w) k t → Belongs b k t → k ≡ p
           only-here c k t here i = refl
-          only-here c k t (later v) i = absurd (omega (arith, i .0, from-there advances bs GoOn q k t (subst (λ z. Visits z k t) u v)))
+          only-here c k t (later v) i = absurd (omega (arith, i .0, visited advances bs GoOn q k t (subst (λ z. Visits z k t) u v) .1))
 
           only-later : q ≤ b → (i : InOne w b) (k : ℕ) (t : Step) → Visits (more p s w) k t → Belongs b k t → k ≡ i .place
           only-later c i k t here j = absurd (omega (arith, j .1, next))
@@ -84,7 +84,7 @@ module _ {reading : List ℕ → Answer} (advances : Advances reading) (bs : Lis
       i = in-one p b g l
 
       here-is : {s : Step} → Visits w (i .place) s → i .place ≡ b → Visits w b (stepAt reading bs b)
-      here-is {s} v e = subst (λ q. Visits w q (stepAt reading bs q)) e (subst (Visits w (i .place)) (stands-there advances bs GoOn p (i .place) s v) v)
+      here-is {s} v e = subst (λ q. Visits w q (stepAt reading bs q)) e (subst (Visits w (i .place)) (visited advances bs GoOn p (i .place) s v .0) v)
 
       by : (s : Step) → Visits w (i .place) s → Belongs b (i .place) s → Visits w b (stepAt reading bs b)
       by End v j = absurd (omega (arith, j))
@@ -104,9 +104,10 @@ module _ {reading : List ℕ → Answer} (advances : Advances reading) (bs : Lis
   -- and those are not visited
   pub none-inside : (p b : ℕ) (s : Step) → Visits (walk reading GoOn bs p) b s → Inside (walk reading GoOn bs p) b → ⊥
   none-inside p b s v i =
-      let lies = told advances bs (i .place) (stands-there advances bs GoOn p (i .place) (Accepted (i .inst) (i .taken)) (i .accepted)) in
+      let lies = told advances bs (i .place) (visited advances bs GoOn p (i .place) (Accepted (i .inst) (i .taken)) (i .accepted) .0) in
       let l : b < length bs = omega (arith, lies, i .within) in
-      let one = in-one p b (from-there advances bs GoOn p b s v) l in
-      let a = one .only b s v (first-byte b s (told advances bs b (stands-there advances bs GoOn p b s v)) l) in
+      let seen = visited advances bs GoOn p b s v in
+      let one = in-one p b (seen .1) l in
+      let a = one .only b s v (first-byte b s (told advances bs b (seen .0)) l) in
       let c = one .only (i .place) (Accepted (i .inst) (i .taken)) (i .accepted) (omega (arith, i .behind), i .within) in
       omega (arith, a, c, i .behind)

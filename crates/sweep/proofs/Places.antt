@@ -22,30 +22,20 @@ counted (more p (Accepted r t) w) = omega (arith, counted w)
 counted (more p (Refused e t) w) = omega (arith, counted w)
 
 module _ {reading : List ℕ → Answer} (advances : Advances reading) (bs : List ℕ) (rule : Rule) where
-  pub stands-there : (p q : ℕ) (s : Step) → Visits (walk reading rule bs p) q s → s ≡ stepAt reading bs q
-  stands-there = along advances bs rule (λ p w. (q : ℕ) (s : Step) → Visits w q s → s ≡ stepAt reading bs q) stops leads
+  -- what is visited from p on stands there, at p or behind
+  pub visited : (p q : ℕ) (s : Step) → Visits (walk reading rule bs p) q s → (s ≡ stepAt reading bs q) × (p ≤ q)
+  visited = along advances bs rule (λ p w. (q : ℕ) (s : Step) → Visits w q s → (s ≡ stepAt reading bs q) × (p ≤ q)) stops leads
     where
-      stops : (p : ℕ) (s : Step) → s ≡ stepAt reading bs p → onward rule p s ≡ stop → (q : ℕ) (t : Step) → Visits (last p s) q t → t ≡ stepAt reading bs q
-      stops p s e o q t at-last = e
+      stops : (p : ℕ) (s : Step) → s ≡ stepAt reading bs p → onward rule p s ≡ stop → (k : ℕ) (t : Step) → Visits (last p s) k t → (t ≡ stepAt reading bs k) × (p ≤ k)
+      stops p s e o k t at-last = (e, omega arith)
 
-      leads : (p q : ℕ) (s : Step) (w : Walk) → w ≡ walk reading rule bs q → s ≡ stepAt reading bs p → onward rule p s ≡ on q → ((k : ℕ) (t : Step) → Visits w k t → t ≡ stepAt reading bs k)
-          → (k : ℕ) (t : Step) → Visits (more p s w) k t → t ≡ stepAt reading bs k
-      leads p q s w u e o h k t here = e
-      leads p q s w u e o h k t (later v) = h k t v
-
-  pub from-there : (p q : ℕ) (s : Step) → Visits (walk reading rule bs p) q s → p ≤ q
-  from-there = along advances bs rule (λ p w. (q : ℕ) (s : Step) → Visits w q s → p ≤ q) stops leads
-    where
-      stops : (p : ℕ) (s : Step) → s ≡ stepAt reading bs p → onward rule p s ≡ stop → (q : ℕ) (t : Step) → Visits (last p s) q t → p ≤ q
-      stops p s e o q t at-last = omega arith
-
-      leads : (p q : ℕ) (s : Step) (w : Walk) → w ≡ walk reading rule bs q → s ≡ stepAt reading bs p → onward rule p s ≡ on q → ((k : ℕ) (t : Step) → Visits w k t → q ≤ k)
-          → (k : ℕ) (t : Step) → Visits (more p s w) k t → p ≤ k
-      leads p q s w u e o h k t here = omega arith
-      leads p q s w u e o h k t (later v) = omega (arith, h k t v, further advances bs rule p q s (told advances bs p e) o)
+      leads : (p q : ℕ) (s : Step) (w : Walk) → w ≡ walk reading rule bs q → s ≡ stepAt reading bs p → onward rule p s ≡ on q
+          → ((k : ℕ) (t : Step) → Visits w k t → (t ≡ stepAt reading bs k) × (q ≤ k)) → (k : ℕ) (t : Step) → Visits (more p s w) k t → (t ≡ stepAt reading bs k) × (p ≤ k)
+      leads p q s w u e o h k t here = (e, omega arith)
+      leads p q s w u e o h k t (later v) = (h k t v .0, omega (arith, h k t v .1, further advances bs rule p q s (told advances bs p e) o))
 
   pub rises : (p : ℕ) → Rises (walk reading rule bs p)
   rises = along advances bs rule (λ p w. Rises w) (λ p s e o. one) (λ p q s w u e o h. then (behind p q s w u e o) h)
     where
       behind : (p q : ℕ) (s : Step) (w : Walk) → w ≡ walk reading rule bs q → s ≡ stepAt reading bs p → onward rule p s ≡ on q → (k : ℕ) (t : Step) → Visits w k t → p < k
-      behind p q s w u e o k t v = omega (arith, from-there q k t (subst (λ z. Visits z k t) u v), further advances bs rule p q s (told advances bs p e) o)
+      behind p q s w u e o k t v = omega (arith, visited q k t (subst (λ z. Visits z k t) u v) .1, further advances bs rule p q s (told advances bs p e) o)

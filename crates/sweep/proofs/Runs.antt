@@ -15,13 +15,13 @@ use Rattle.sweep.specs.declared.step.Step.the-variants.{End, Accepted, R
 use Rattle.sweep.specs.Walk.{stepAt, Walk, last, more, Onward, stop, on, onward, walk}
 use Rattle.sweep.specs.Sweep.{isAccepted, places, lastPlace, lastStep, refusalOf, Outcome}
 use Rattle.sweep.specs.steps.Before.{outcomeIn, behind}
-use Rattle.sweep.proofs.Walk.{Advances, Told, told, along}
+use Rattle.sweep.proofs.Walk.{Advances, never, Told, told, along}
 use Rattle.sweep.proofs.Before.{counted, here-counted}
 
 -- of a step at which the stopping rule stops: with no refusal it is the image's end, where both rules stop
 at-end : (rule : Rule) (bs : List ℕ) (q : ℕ) (s : Step) → Told bs q s → onward Stop q s ≡ stop → refusalOf s ≡ 0 → onward rule q s ≡ stop
 at-end rule bs q End h o z = refl
-at-end rule bs q (Accepted r t) h o z = absurd (let z : _≡_ {A = ℕ} 0 1 = cc in omega arith)
+at-end rule bs q (Accepted r t) h o z = absurd (never (sym o))
 at-end rule bs q (Refused e t) h o z = absurd (h .2 z)
 
 -- with a refusal it is inside the image, and going on leads one byte on
@@ -69,8 +69,8 @@ module _ {reading : List ℕ → Answer} (advances : Advances reading) (bs : Lis
         leads : (p q : ℕ) (s : Step) (w : Walk) → w ≡ walk reading Stop bs q → s ≡ stepAt reading bs p → onward Stop p s ≡ on q
             → ((n m : ℕ) (ss : List ℕ) → n + (length bs - q) ≤ length ss → behind (walk reading rule bs q) n m ss ≡ then w n m ss)
             → (n m : ℕ) (ss : List ℕ) → n + (length bs - p) ≤ length ss → behind (walk reading rule bs p) n m ss ≡ then (more p s w) n m ss
-        leads p q End w u e o h n m ss room = absurd (let z : _≡_ {A = ℕ} 0 1 = cc in omega arith)
-        leads p q (Refused x t) w u e o h n m ss room = absurd (let z : _≡_ {A = ℕ} 0 1 = cc in omega arith)
+        leads p q End w u e o h n m ss room = absurd (never o)
+        leads p q (Refused x t) w u e o h n m ss room = absurd (never o)
         leads p q (Accepted r t) w u e o h n m ss room =
             let l = told advances bs p e in
             let z : p + t ≡ q = cc in

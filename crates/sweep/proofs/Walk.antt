@@ -27,6 +27,10 @@ pub record Advances (reading : List ℕ → Answer) : Type 0 where
   pub some : (bs : List ℕ) → reading bs .refusal ≡ 0 → 1 ≤ reading bs .taken
   pub within : (bs : List ℕ) → reading bs .taken ≤ length bs
 
+-- a walk does not both stop and go on
+pub never : {q : ℕ} → stop ≡ on q → ⊥
+never e = let z : _≡_ {A = ℕ} 0 1 = cc in omega arith
+
 -- a step in numbers
 abbrev pub Told : List ℕ → ℕ → Step → Type 0
 Told bs p End = length bs ≤ p
@@ -64,13 +68,13 @@ module _ {reading : List ℕ → Answer} (advances : Advances reading) (bs : Lis
   module _ (rule : Rule) where
     -- where a step leads lies behind it, inside the image or at its end
     pub further : (p q : ℕ) (s : Step) → Told bs p s → onward rule p s ≡ on q → (p < q) × (q ≤ length bs)
-    further p q End h e = let z : _≡_ {A = ℕ} 0 1 = cc in omega arith
+    further p q End h e = absurd (never e)
     further p q (Accepted r t) h e = let z : p + t ≡ q = cc in omega arith
     further p q (Refused r t) h e = by rule e
       where
         by : (rule : Rule) → onward rule p (Refused r t) ≡ on q → (p < q) × (q ≤ length bs)
         by GoOn e = let z : p + 1 ≡ q = cc in omega arith
-        by Stop e = let z : _≡_ {A = ℕ} 0 1 = cc in omega arith
+        by Stop e = absurd (never e)
 
     same : (p : ℕ) (s : Step) {f g : ℕ → Walk} (o : Onward) → ((q : ℕ) → o ≡ on q → f q ≡ g q) → visit p s o f ≡ visit p s o g
     same p s stop h = refl

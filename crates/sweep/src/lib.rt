@@ -24,7 +24,7 @@ pub struct Swept {
 }
 
 // What a run breaks out with: the refusal, 0 at the image's end, the starts kept so far, and the place.
-pub struct Stopped {
+struct Stopped {
     refusal: u8,
     count: usize,
     place: usize,
