@@ -1,7 +1,7 @@
 -- The places that a walk visits, by any reading: each is what stands there, they rise, and they are counted.
 -- Assumes nothing.
 use Prim.Native.Nat.{ℕ, _+_, _≤_, _<_}
-use mathlib.Core.Path.{_≡_, subst}
+use mathlib.Core.Path.{_≡_, refl, subst}
 use mathlib.Core.List.{List}
 use native.Mathlib.Omega.{arith}
 use lib.ListN.{length}
@@ -11,8 +11,8 @@ use Rattle.sweep.specs.declared.step.Step.{Step}
 use Rattle.sweep.specs.declared.step.Step.the-variants.{End, Accepted, Refused}
 use Rattle.sweep.specs.Walk.{stepAt, Walk, last, more, stop, on, onward, walk}
 use Rattle.sweep.specs.Sweep.{isAccepted, isRefused, places, lastStep}
-use Rattle.sweep.specs.Visits.{Visits, at-last, here, later, Rises, one, then, decodingsAt, decodings}
-use Rattle.sweep.proofs.Walk.{Advances, told, further, along}
+use Rattle.sweep.specs.Visits.{Visits, at-last, here, later, Rises, one, then, passed, decodingsAt, decodings}
+use Rattle.sweep.proofs.Walk.{Advances, never, told, further, along}
 
 -- the accepted places, those refused and passed, and the one where the walk stops if it was decoded
 pub counted : (w : Walk) → decodings w ≡ length (places isAccepted w) + length (places isRefused w) + decodingsAt (lastStep w)
@@ -39,3 +39,14 @@ module _ {reading : List ℕ → Answer} (advances : Advances reading) (bs : Lis
     where
       behind : (p q : ℕ) (s : Step) (w : Walk) → w ≡ walk reading rule bs q → s ≡ stepAt reading bs p → onward rule p s ≡ on q → (k : ℕ) (t : Step) → Visits w k t → p < k
       behind p q s w u e o k t v = omega (arith, visited q k t (subst (λ z. Visits z k t) u v) .1, further advances bs rule p q s (told advances bs p e) o)
+
+  -- each place from which the walk goes on was accepted or refused
+  pub passed-each : (p : ℕ) → let w = walk reading rule bs p in length (passed w) ≡ length (places isAccepted w) + length (places isRefused w)
+  passed-each = along advances bs rule (λ p w. length (passed w) ≡ length (places isAccepted w) + length (places isRefused w)) (λ p s e o. refl) leads
+    where
+      leads : (p q : ℕ) (s : Step) (w : Walk) → w ≡ walk reading rule bs q → s ≡ stepAt reading bs p → onward rule p s ≡ on q
+          → length (passed w) ≡ length (places isAccepted w) + length (places isRefused w)
+          → length (passed (more p s w)) ≡ length (places isAccepted (more p s w)) + length (places isRefused (more p s w))
+      leads p q End w u e o h = absurd (never o)
+      leads p q (Accepted r t) w u e o h = omega (arith, h)
+      leads p q (Refused x t) w u e o h = omega (arith, h)

@@ -12,6 +12,7 @@ use Rattle.sweep.specs.declared.step.Step.{Step}
 use Rattle.sweep.specs.declared.step.Step.the-variants.{End, Accepted, Refused}
 use Rattle.sweep.specs.Walk.{stepAt, Walk, last, more, stop, on, onward, visit, walk}
 use Rattle.sweep.specs.Sweep.{isAccepted, isRefused, places, lastStep, refusalOf}
+use Rattle.sweep.specs.Visits.{passed}
 use Rattle.sweep.proofs.Walk.{Advances, never, told, turned, along}
 
 module _ {reading : List ℕ → Answer} (advances : Advances reading) (bs : List ℕ) where
@@ -26,9 +27,9 @@ module _ {reading : List ℕ → Answer} (advances : Advances reading) (bs : Lis
       along advances bs Stop (λ p w. places isRefused w ≡ []) (λ p s e o. refl)
       (λ p q s w u e o h. ap (λ z. pick z (p ∷ places isRefused w) (places isRefused w)) (accepted-only p q s o .1) ∙ h)
 
-  pub passes-starts : (p : ℕ) → places (λ s. true) (walk reading Stop bs p) ≡ places isAccepted (walk reading Stop bs p)
+  pub passes-starts : (p : ℕ) → passed (walk reading Stop bs p) ≡ places isAccepted (walk reading Stop bs p)
   passes-starts =
-      along advances bs Stop (λ p w. places (λ s. true) w ≡ places isAccepted w) (λ p s e o. refl)
+      along advances bs Stop (λ p w. passed w ≡ places isAccepted w) (λ p s e o. refl)
       (λ p q s w u e o h. ap (λ z. p ∷ z) h ∙ ap (λ z. pick z (p ∷ places isAccepted w) (places isAccepted w)) (sym (accepted-only p q s o .0)))
 
   -- where the stopping walk comes to the image's end, going on visits the same places

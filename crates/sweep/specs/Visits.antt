@@ -1,6 +1,7 @@
 -- What can be said of a walk's places: the words of request A1's laws.
 use Prim.Native.Nat.{ℕ, _+_, _≤_, _<_}
 use mathlib.Core.Path.{_≡_}
+use mathlib.Core.List.{List, [], _∷_}
 use Rattle.record.specs.declared.Record.{Record}
 use Rattle.sweep.specs.declared.step.Step.{Step}
 use Rattle.sweep.specs.declared.step.Step.the-variants.{End, Accepted, Refused}
@@ -16,6 +17,11 @@ pub data Visits : Walk → ℕ → Step → Type 0 where
 pub data Rises : Walk → Type 0 where
   one : {p : ℕ} {s : Step} → Rises (last p s)
   then : {p : ℕ} {s : Step} {w : Walk} → ((q : ℕ) (t : Step) → Visits w q t → p < q) → Rises w → Rises (more p s w)
+
+-- the places from which a walk goes on
+abbrev pub passed : Walk → List ℕ
+passed (last p s) = []
+passed (more p s w) = p ∷ passed w
 
 -- the bytes of a visited place: those of its instruction, or the refused place alone
 abbrev pub bytesOf : Step → ℕ
