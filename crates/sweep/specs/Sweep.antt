@@ -15,7 +15,7 @@ use Rattle.sweep.specs.declared.step.Step.{Step}
 use Rattle.sweep.specs.declared.step.Step.the-variants.{End, Accepted, Refused}
 use Rattle.sweep.specs.Walk.{Walk, last, more, walk}
 
--- an instruction stands there; something else does that is no instruction decoded here
+-- whether an instruction stands at a place, and whether a refusal does
 abbrev pub isAccepted : Step → Bool
 isAccepted End = false
 isAccepted (Accepted r t) = true
