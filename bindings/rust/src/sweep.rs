@@ -45,7 +45,7 @@ fn sweep_by<'a>(function: c::Sweep, image: &'a [u8], starts: &'a mut [u16]) -> R
 
 impl<'a> Sweep<'a> {
     /// The instructions in their order, and between them the places that were refused and passed; last the refusal that stopped the
-    /// sweep, if one did. `flatten` leaves the instructions alone.
+    /// sweep, if one did. `flatten` gives the instructions only.
     pub fn instructions(&self) -> Instructions<'a> {
         Instructions { image: self.image, place: 0, end: self.place, stopped: self.stopped }
     }

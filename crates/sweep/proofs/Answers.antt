@@ -13,7 +13,7 @@ use Rattle.sweep.specs.declared.Rule.{Rule}
 use Rattle.sweep.specs.declared.Rule.the-variants.{GoOn, Stop}
 use Rattle.sweep.specs.Walk.{Walk, walk}
 use Rattle.sweep.specs.Sweep.{lastStep, refusalOf, outcomeOf, whole}
-use Rattle.sweep.specs.Visits.{bytesIn, decodingsAt, decodings}
+use Rattle.sweep.specs.Visits.{bytesOf, decodings, total}
 use Rattle.sweep.proofs.Walk.{by-rows}
 use Rattle.sweep.proofs.Places.{counted}
 use Rattle.sweep.proofs.Rules.{counts-none, same-walk}
@@ -27,11 +27,11 @@ module _ (bs ss : List ℕ) (h : length bs ≤ 4096) (g : length bs ≤ length s
 
   -- going on comes to the image's end, and counts each decoding once; the bytes of starts and refused places are those of the image
   pub goes-on : let r = whole GoOn bs ss .swept in let w = walk decodeRows GoOn bs 0 in
-      (r .refusal ≡ 0) × (r .place ≡ length bs) × (r .count + r .refused ≡ decodings w) × (bytesIn w ≡ length bs)
+      (r .refusal ≡ 0) × (r .place ≡ length bs) × (r .count + r .refused ≡ total decodings w) × (total bytesOf w ≡ length bs)
   goes-on =
       let e = to-the-end by-rows bs 0 (omega arith) in
       let w = walk decodeRows GoOn bs 0 in
-      let none : decodingsAt (lastStep w) ≡ 0 = ap decodingsAt (e .1) in
+      let none : decodings (lastStep w) ≡ 0 = ap decodings (e .1) in
       rw (walked GoOn) (ap refusalOf (e .1), e .0, omega (arith, counted w, none), omega (arith, bytes-add-up by-rows bs 0 (omega arith)))
 
 -- stopping counts no refused place, whatever it is given

@@ -15,7 +15,7 @@ use Rattle.sweep.specs.declared.step.Step.{Step}
 use Rattle.sweep.specs.declared.step.Step.the-variants.{End, Accepted, Refused}
 use Rattle.sweep.specs.Walk.{stepAt, Walk, more, stop, on, onward, walk}
 use Rattle.sweep.specs.Sweep.{lastPlace, lastStep}
-use Rattle.sweep.specs.Visits.{Visits, here, later, bytesOf, Belongs, InOne, Inside, bytesIn}
+use Rattle.sweep.specs.Visits.{Visits, here, later, bytesOf, Belongs, InOne, Inside, total}
 use Rattle.sweep.proofs.Walk.{Advances, never, Told, told, further, along}
 use Rattle.sweep.proofs.Places.{visited}
 
@@ -42,9 +42,9 @@ module _ {reading : List ℕ → Answer} (advances : Advances reading) (bs : Lis
       (λ p q s w u e o h g. h (further advances bs GoOn p q s (told advances bs p e) o .1))
 
   -- the bytes of the accepted and the refused places together are those of the image
-  pub bytes-add-up : (p : ℕ) → p ≤ length bs → bytesIn (walk reading GoOn bs p) ≡ length bs - p
+  pub bytes-add-up : (p : ℕ) → p ≤ length bs → total bytesOf (walk reading GoOn bs p) ≡ length bs - p
   bytes-add-up =
-      along advances bs GoOn (λ p w. p ≤ length bs → bytesIn w ≡ length bs - p)
+      along advances bs GoOn (λ p w. p ≤ length bs → total bytesOf w ≡ length bs - p)
       (λ p s e o h. let z = ends p s e o in ap bytesOf (z .0) ∙ omega (arith, z .1))
       (λ p q s w u e o h g. let l = further advances bs GoOn p q s (told advances bs p e) o in let z = behind-bytes p q s o in omega (arith, h (l .1)))
 

@@ -11,11 +11,11 @@ use Rattle.sweep.specs.declared.step.Step.{Step}
 use Rattle.sweep.specs.declared.step.Step.the-variants.{End, Accepted, Refused}
 use Rattle.sweep.specs.Walk.{stepAt, Walk, last, more, stop, on, onward, walk}
 use Rattle.sweep.specs.Sweep.{isAccepted, isRefused, places, lastStep}
-use Rattle.sweep.specs.Visits.{Visits, at-last, here, later, Rises, one, then, passed, decodingsAt, decodings}
+use Rattle.sweep.specs.Visits.{Visits, at-last, here, later, Rises, one, then, passed, decodings, total}
 use Rattle.sweep.proofs.Walk.{Advances, never, told, further, along}
 
 -- the accepted places, those refused and passed, and the one where the walk stops if it was decoded
-pub counted : (w : Walk) → decodings w ≡ length (places isAccepted w) + length (places isRefused w) + decodingsAt (lastStep w)
+pub counted : (w : Walk) → total decodings w ≡ length (places isAccepted w) + length (places isRefused w) + decodings (lastStep w)
 counted (last p s) = omega arith
 counted (more p End w) = omega (arith, counted w)
 counted (more p (Accepted r t) w) = omega (arith, counted w)

@@ -50,17 +50,13 @@ pub record Inside (w : Walk) (b : ℕ) : Type 0 where
   pub behind : place < b
   pub within : b < place + taken
 
--- the bytes of all places together
-abbrev pub bytesIn : Walk → ℕ
-bytesIn (last p s) = bytesOf s
-bytesIn (more p s w) = bytesOf s + bytesIn w
+-- every place is decoded but the image's end
+abbrev pub decodings : Step → ℕ
+decodings End = 0
+decodings (Accepted r t) = 1
+decodings (Refused e t) = 1
 
--- how many places are decoded: all but the image's end
-abbrev pub decodingsAt : Step → ℕ
-decodingsAt End = 0
-decodingsAt (Accepted r t) = 1
-decodingsAt (Refused e t) = 1
-
-abbrev pub decodings : Walk → ℕ
-decodings (last p s) = decodingsAt s
-decodings (more p s w) = decodingsAt s + decodings w
+-- a number of each visited place, all together
+abbrev pub total : (Step → ℕ) → Walk → ℕ
+total of (last p s) = of s
+total of (more p s w) = of s + total of w
