@@ -250,12 +250,14 @@ uint32_t m16c_decode(const uint8_t *image, size_t image_length, size_t at, uint3
 uint32_t m16c_encode(const uint32_t *numbers, size_t numbers_length, uint8_t *buf, size_t buf_length, size_t place, size_t *bytes_written);
 
 /* The starts of an image's instructions, to its end: a refused place is counted, and the next byte decoded. Returns 0, and leaves how many
- * starts were kept, the image's length and how many places were refused; or returns 7 or 6, and leaves 0 and the starts as they were. */
-uint32_t m16c_sweep(const uint8_t *image, size_t image_length, uint16_t *starts, size_t starts_length, size_t *count, size_t *place, size_t *refused);
+ * starts were kept, the image's length, how many places were refused and how many bytes all decodings took, at most three times the image's
+ * length; or returns 7 or 6, and leaves 0 and the starts as they were. */
+uint32_t m16c_sweep(const uint8_t *image, size_t image_length, uint16_t *starts, size_t starts_length, size_t *count, size_t *place, size_t *refused, size_t *read);
 
 /* The starts of an image's instructions, to its end or the first refusal. Returns that refusal, 0 at the end, and leaves how many starts
- * were kept, where decoding stopped, and 0 for refused; or returns 7 or 6, and leaves 0 and the starts as they were. */
-uint32_t m16c_sweep_stopping(const uint8_t *image, size_t image_length, uint16_t *starts, size_t starts_length, size_t *count, size_t *place, size_t *refused);
+ * were kept, where decoding stopped, 0 for refused and how many bytes all decodings took, the refused one too, at most the image's length;
+ * or returns 7 or 6, and leaves 0 and the starts as they were. */
+uint32_t m16c_sweep_stopping(const uint8_t *image, size_t image_length, uint16_t *starts, size_t starts_length, size_t *count, size_t *place, size_t *refused, size_t *read);
 
 /* The listing's line of the instruction at a place of an image, without a newline, over the first bytes of a buffer. Returns 0 and leaves
  * the line's length; or decoding's refusal, or 6 where the line has no room, with length 0 and the buffer as it was. */

@@ -7,6 +7,7 @@ mod brute;
 #[path = "../bindings/rust/src/c.rs"]
 mod c;
 mod encoder;
+mod known;
 mod lines;
 mod numbers;
 mod operands;

@@ -4,12 +4,10 @@ use std::collections::BTreeSet;
 
 use oracle::answer;
 
+use crate::known::{reading_most, READS_MUCH, RULES_IMAGE};
 use crate::stored::packed_hex;
 
 const MOST_BYTES: usize = 16;
-
-// The image of the rules' listing.
-const RULES_IMAGE: [u8; 14] = [0x74, 0x0F, 0x34, 0x12, 0x89, 0x67, 0xF5, 0x7D, 0xC8, 0x05, 0xEB, 0xC5, 0x7E, 0xE0];
 
 // Every so many strings of the stored list give an instruction, so that neighbours in an image are not alike.
 const STEP: usize = 23;
@@ -25,16 +23,31 @@ const REFUSED_BEFORE_INT: [&[u8]; 6] =
     [&[0x7C, 0x7F], &[0x74, 0x63], &[0x78, 0x83], &[0x7E, 0x20], &[0x74, 0x0F], &[0x74, 0x0F, 0x34]];
 const INT: [u8; 2] = [0xEB, 0xC5];
 
+// Refused with 2 after five bytes, and after five and four; with 3 after four.
+const REFUSED_LATE: [&[u8]; 5] = [
+    &[0x7E, 0x2C, 0x00, 0x00, 0x07],
+    &[0x7E, 0x2F, 0x00, 0x00, 0xFF, 0x7E, 0x28, 0x00, 0x07],
+    &[0x78, 0xC1, 0x00, 0x00],
+    &[0x79, 0xF5, 0x00, 0x00],
+    &[0x7A, 0x8C, 0x00, 0x00],
+];
+
 const RANDOM_IMAGES: usize = 32;
 
 /// Stopping sweeps; then, of the same images and of more, sweeps that go on.
 pub fn list(strings: &[Vec<u8>]) -> String {
-    let cuts = (0..=RULES_IMAGE.len()).map(|length| RULES_IMAGE[..length].to_vec());
-    let images: Vec<Vec<u8>> = cuts.chain(made_of(strings)).collect();
-    let stopping: String = images.iter().map(|image| stopping_line(image)).collect();
     let mut listed = BTreeSet::new();
-    let all = images.into_iter().chain(mixed(strings)).filter(|image| listed.insert(image.clone()));
-    stopping + &all.map(|image| going_on_line(&image)).collect::<String>()
+    let mut new = |images: Vec<Vec<u8>>| -> Vec<Vec<u8>> { images.into_iter().filter(|image| listed.insert(image.clone())).collect() };
+    let images = new([cuts(&RULES_IMAGE), made_of(strings), reading_much()].concat());
+    let more = new(mixed(strings));
+    let stopping = images.iter().map(|image| stopping_line(image));
+    let going_on = images.iter().chain(&more).map(|image| going_on_line(image));
+    stopping.chain(going_on).collect()
+}
+
+/// From no byte to all of them.
+fn cuts(image: &[u8]) -> Vec<Vec<u8>> {
+    (0..=image.len()).map(|length| image[..length].to_vec()).collect()
 }
 
 /// Images of whole instructions, each also with a byte cut off.
@@ -50,6 +63,12 @@ fn made_of(strings: &[Vec<u8>]) -> Vec<Vec<u8>> {
         image.extend(instruction);
     }
     images
+}
+
+/// Going on reads many of their bytes more than once.
+fn reading_much() -> Vec<Vec<u8>> {
+    let late = REFUSED_LATE.map(|refused| refused.to_vec());
+    [cuts(&READS_MUCH), vec![reading_most(MOST_BYTES)], late.to_vec()].concat()
 }
 
 /// Images in which refused places stand between instructions, or nothing else stands.
@@ -106,23 +125,25 @@ fn at_random(firsts: &[u8]) -> Vec<Vec<u8>> {
 
 // README.md describes the fields.
 fn stopping_line(image: &[u8]) -> String {
-    let (mut place, mut refusal, mut starts) = (0, 0, 0);
+    let (mut place, mut refusal, mut read, mut starts) = (0, 0, 0, 0);
     while place < image.len() {
         let answer = answer(&image[place..]);
         refusal = answer.refusal;
+        read += answer.taken;
         if refusal != oracle::ACCEPTED {
             break;
         }
         starts |= 0x8000 >> place;
         place += answer.taken;
     }
-    stored_line('S', image, starts, place, refusal)
+    stored_line('S', image, read, place, refusal, starts)
 }
 
 fn going_on_line(image: &[u8]) -> String {
-    let (mut place, mut refused, mut starts) = (0, 0, 0);
+    let (mut place, mut refused, mut read, mut starts) = (0, 0, 0, 0);
     while place < image.len() {
         let answer = answer(&image[place..]);
+        read += answer.taken;
         if answer.refusal == oracle::ACCEPTED {
             starts |= 0x8000 >> place;
             place += answer.taken;
@@ -131,12 +152,12 @@ fn going_on_line(image: &[u8]) -> String {
             place += 1;
         }
     }
-    stored_line('G', image, starts, refused, oracle::ACCEPTED)
+    stored_line('G', image, read, refused, oracle::ACCEPTED, starts)
 }
 
-fn stored_line(kind: char, image: &[u8], starts: u16, place_or_refused: usize, refusal: u8) -> String {
+fn stored_line(kind: char, image: &[u8], read: usize, place_or_refused: usize, refusal: u8, starts: u16) -> String {
     let mut padded = image.to_vec();
     padded.resize(MOST_BYTES, 0);
-    let (length, bytes, count) = (image.len(), packed_hex(&padded), starts.count_ones());
-    format!("{kind}{length:02X}{bytes} {count:02X} {place_or_refused:02X} {refusal} {starts:04X}\n")
+    let (length, bytes) = (image.len(), packed_hex(&padded));
+    format!("{kind}{length:02X}{bytes} {read:02X} {place_or_refused:02X} {refusal} {starts:04X}\n")
 }

@@ -2,6 +2,7 @@
 
 mod asked;
 mod images;
+mod known;
 mod odd;
 mod operands;
 mod stored;

@@ -91,31 +91,34 @@ fn records(_part: usize, tally: &mut Tally) {
 
 fn stopping_sweeps(_part: usize, tally: &mut Tally) {
     for words in lines(|first| first == 'S') {
-        let (image, [count, place, refusal], starts) = swept(&words);
-        compare_sweep(tally, Rule::Stop, &image, Swept { refusal: refusal as u32, count, place, refused: 0, starts });
+        let (image, [refusal, count, place, read], starts) = swept(&words);
+        compare_sweep(tally, Rule::Stop, &image, Swept { refusal: refusal as u32, count, place, refused: 0, read, starts });
     }
 }
 
 /// Where a stopping sweep's line has the place, such a line has how many were refused: its place is the image's end.
 fn sweeps_going_on(_part: usize, tally: &mut Tally) {
     for words in lines(|first| first == 'G') {
-        let (image, [count, refused, refusal], starts) = swept(&words);
+        let (image, [refusal, count, refused, read], starts) = swept(&words);
         let place = image.len();
-        compare_sweep(tally, Rule::GoOn, &image, Swept { refusal: refusal as u32, count, place, refused, starts });
+        compare_sweep(tally, Rule::GoOn, &image, Swept { refusal: refusal as u32, count, place, refused, read, starts });
     }
 }
 
-/// The image of a line, three numbers, and the starts with what stands behind them.
-fn swept(words: &[&str]) -> (Vec<u8>, [usize; 3], Vec<u16>) {
-    let [image, count, place_or_refused, refusal, starts] = words[..] else {
+/// The image of a line; its refusal, how many bits for starts are set, its place or refused places, and read; and the starts with what
+/// stands behind them.
+fn swept(words: &[&str]) -> (Vec<u8>, [usize; 4], Vec<u16>) {
+    let [image, read, place_or_refused, refusal, starts] = words[..] else {
         panic!("a stored image has five words: {words:?}");
     };
     let [length] = numbers(&image[1..3], [2]);
     let image = bytes(&image[3..], length);
     let is_start = |place: &u16| number(starts) >> (15 - place) & 1 == 1;
     let mut starts: Vec<u16> = (0..16).filter(is_start).collect();
+    let count = starts.len();
     starts.resize(image.len(), NO_START);
-    (image, [count, place_or_refused, refusal].map(|text| number(text) as usize), starts)
+    let [read, place_or_refused, refusal] = [read, place_or_refused, refusal].map(|text| number(text) as usize);
+    (image, [refusal, count, place_or_refused, read], starts)
 }
 
 fn compare_sweep(tally: &mut Tally, rule: Rule, image: &[u8], wanted: Swept) {

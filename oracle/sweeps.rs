@@ -1,7 +1,8 @@
 // The sweep's part of the differential run: the port's `m16c_sweep` and `m16c_sweep_stopping` beside the Rust asked again and again.
 
 use crate::c::{self, LONGEST_IMAGE};
-use crate::{expected, hex, Kind, Random, Tally, TAKEN, TOO_LITTLE_ROOM};
+use crate::known::{reading_most, RULES_IMAGE};
+use crate::{code_of, expected, hex, Kind, Random, Tally, CODES, TAKEN, TOO_LITTLE_ROOM};
 
 const IMAGE_TOO_LONG: u32 = 7;
 
@@ -15,6 +16,9 @@ pub const KINDS: &[Kind] = &[
     Kind { name: "images of random bytes", quick_parts: 100, all_parts: 1000, run_part: images_of_random_bytes },
     Kind { name: "images of one byte, again and again", quick_parts: 256, all_parts: 256, run_part: images_of_one_byte },
     Kind { name: "images about as long as may be, and longer", quick_parts: 50, all_parts: 500, run_part: long_images },
+    Kind { name: "images of late refusals, cut short at the end", quick_parts: 100, all_parts: 1000, run_part: images_of_late_refusals },
+    Kind { name: "images of which the most is read", quick_parts: 1, all_parts: 1, run_part: images_read_most },
+    Kind { name: "up to 6 of some bytes, every one, going on", quick_parts: SOME_FIRSTS, all_parts: SOME_FIRSTS, run_part: short_images },
 ];
 
 const IMAGES_IN_A_PART: usize = 20;
@@ -34,6 +38,7 @@ pub struct Swept {
     pub count: usize,
     pub place: usize,
     pub refused: usize,
+    pub read: usize,
     pub starts: Vec<u16>,
 }
 
@@ -42,7 +47,7 @@ pub const NO_START: u16 = 0xDEAD;
 const UNWRITTEN: usize = 0xDEAD_BEEF;
 
 fn repeated(rule: Rule, image: &[u8], room: usize) -> Swept {
-    let mut swept = Swept { refusal: 0, count: 0, place: 0, refused: 0, starts: vec![NO_START; room] };
+    let mut swept = Swept { refusal: 0, count: 0, place: 0, refused: 0, read: 0, starts: vec![NO_START; room] };
     if image.len() > LONGEST_IMAGE {
         return Swept { refusal: IMAGE_TOO_LONG, ..swept };
     }
@@ -51,11 +56,13 @@ fn repeated(rule: Rule, image: &[u8], room: usize) -> Swept {
     }
     while swept.place < image.len() {
         let rust = expected(&image[swept.place..]);
+        let taken = rust.fields[TAKEN] as usize;
+        swept.read += taken;
         match (rust.refusal, rule) {
             (0, _) => {
                 swept.starts[swept.count] = swept.place as u16;
                 swept.count += 1;
-                swept.place += rust.fields[TAKEN] as usize;
+                swept.place += taken;
             }
             (_, Rule::GoOn) => {
                 swept.refused += 1;
@@ -72,11 +79,11 @@ pub fn ported(rule: Rule, image: &[u8], room: usize) -> Swept {
         Rule::GoOn => c::m16c_sweep,
         Rule::Stop => c::m16c_sweep_stopping,
     };
-    let (mut count, mut place, mut refused) = (UNWRITTEN, UNWRITTEN, UNWRITTEN);
+    let (mut count, mut place, mut refused, mut read) = (UNWRITTEN, UNWRITTEN, UNWRITTEN, UNWRITTEN);
     let mut starts = vec![NO_START; room];
     let (bytes, entries) = (image.as_ptr(), starts.as_mut_ptr());
-    let refusal = unsafe { sweep(bytes, image.len(), entries, room, &mut count, &mut place, &mut refused) };
-    Swept { refusal, count, place, refused, starts }
+    let refusal = unsafe { sweep(bytes, image.len(), entries, room, &mut count, &mut place, &mut refused, &mut read) };
+    Swept { refusal, count, place, refused, read, starts }
 }
 
 /// By both rules, with an entry for each byte, with more, and with too few.
@@ -84,20 +91,34 @@ fn compare(tally: &mut Tally, image: &[u8]) {
     let length = image.len();
     for rule in [Rule::GoOn, Rule::Stop] {
         for room in [length, length + 1, length + 7, length.saturating_sub(1), length / 2, 0] {
-            let (rust, port) = (repeated(rule, image, room), ported(rule, image, room));
-            tally.count(rust.refusal == 0, rust == port, || {
-                format!("{rule:?}, room for {room} starts, image {}\n  Rust {rust:X?}\n  port {port:X?}\n", hex(image))
-            });
+            compare_by(tally, rule, image, room);
         }
+    }
+}
+
+/// The port with the Rust, and what the Rust reads with the most that any sweep does.
+fn compare_by(tally: &mut Tally, rule: Rule, image: &[u8], room: usize) {
+    let (rust, port) = (repeated(rule, image, room), ported(rule, image, room));
+    let most = most_read(rule, image.len());
+    tally.count(rust.refusal == 0, rust == port && rust.read <= most, || {
+        let passed = if rust.read > most { format!("the Rust reads {} bytes, over {most}: ", rust.read) } else { String::new() };
+        format!("{passed}{rule:?}, room for {room} starts, image {}\n  Rust {rust:X?}\n  port {port:X?}\n", hex(image))
+    });
+}
+
+/// Request A13: no sweep reads more bytes of an image this long. `reading_most` has images of which so many are read.
+fn most_read(rule: Rule, length: usize) -> usize {
+    match rule {
+        Rule::GoOn => (3 * length).saturating_sub(1),
+        Rule::Stop => length,
     }
 }
 
 // ---- The kinds of images
 
 fn image_of_the_rules(_part: usize, tally: &mut Tally) {
-    const IMAGE: [u8; 14] = [0x74, 0x0F, 0x34, 0x12, 0x89, 0x67, 0xF5, 0x7D, 0xC8, 0x05, 0xEB, 0xC5, 0x7E, 0xE0];
-    for length in 0..=IMAGE.len() {
-        compare(tally, &IMAGE[..length]);
+    for length in 0..=RULES_IMAGE.len() {
+        compare(tally, &RULES_IMAGE[..length]);
     }
 }
 
@@ -211,6 +232,67 @@ fn long_images(part: usize, tally: &mut Tally) {
     for image in [image, mixed(MOST, &mut random), bytes(MOST, &mut random)] {
         for length in [LONGEST_IMAGE - 1, LONGEST_IMAGE, LONGEST_IMAGE + 1, at_random] {
             compare(tally, &image[..length]);
+        }
+    }
+}
+
+fn images_of_late_refusals(part: usize, tally: &mut Tally) {
+    let mut random = Random::of("late refusals", part);
+    let codes = late_codes();
+    for _ in 0..IMAGES_IN_A_PART {
+        let length = random.below(200);
+        compare(tally, &late_refusals(length, &codes, &mut random));
+    }
+}
+
+/// Late codes, each of which takes bytes of those behind it, and bytes between them. At least this many bytes, then an instruction cut short.
+fn late_refusals(length: usize, codes: &[[u8; 2]], random: &mut Random) -> Vec<u8> {
+    let mut image = Vec::new();
+    while image.len() < length {
+        match random.below(8) {
+            0 => image.push(random.byte()),
+            1 => image.push(random.first_byte()),
+            _ => image.extend(codes[random.below(codes.len())]),
+        }
+    }
+    let end = random.accepted_string();
+    image.extend(&end[..end.len() - 1]);
+    image
+}
+
+/// Codes that the Rust refuses after four bytes or five, where these are no conditions.
+fn late_codes() -> Vec<[u8; 2]> {
+    const NO_CONDITION: u8 = 0x07;
+    let is_late = |code: &[u8; 2]| {
+        let rust = expected(&[code, &[NO_CONDITION; 5][..]].concat());
+        rust.refusal != 0 && rust.fields[TAKEN] >= 4
+    };
+    (0..CODES).map(|code| code_of(code).into()).filter(is_late).collect()
+}
+
+fn images_read_most(_part: usize, tally: &mut Tally) {
+    for length in (0..200).chain(LONGEST_IMAGE - 1..=LONGEST_IMAGE + 1) {
+        compare(tally, &reading_most(length));
+    }
+}
+
+// Some first bytes; then second bytes that make long instructions and late refusals of them.
+const SOME_BYTES: [u8; 11] = [0x74, 0x76, 0x78, 0x7A, 0x7D, 0x7E, 0xEB, 0x00, 0x0C, 0x2C, 0xC3];
+const SOME_FIRSTS: usize = 7;
+
+/// A part is the first byte.
+fn short_images(part: usize, tally: &mut Tally) {
+    compare_longer(tally, &mut vec![SOME_BYTES[part]]);
+}
+
+/// This image, and those that begin with it.
+fn compare_longer(tally: &mut Tally, image: &mut Vec<u8>) {
+    compare_by(tally, Rule::GoOn, image, image.len());
+    if image.len() < 6 {
+        for byte in SOME_BYTES {
+            image.push(byte);
+            compare_longer(tally, image);
+            image.pop();
         }
     }
 }

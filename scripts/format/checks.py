@@ -163,13 +163,13 @@ def check_number(where, model, names, line):
 
 def check_sweep(where, model, line):
     """A line of a stopping sweep has the place where it stops; of one that goes on, how many places were refused."""
-    head, count, number, refusal, bits = line.split(" ")
+    head, read, number, refusal, bits = line.split(" ")
     image = bytes.fromhex(head[3:])[:int(head[1:3], 16)]
     stopping = head[0] == "S"
     starts = [p for p in range(16) if int(bits, 16) >> (15 - p) & 1]
     place, refused = (int(number, 16), 0) if stopping else (len(image), int(number, 16))
-    same(f"{where}: refusal, starts, place, refused", model.sweep(image, stopping), (int(refusal), starts, place, refused))
-    same(f"{where}: count", len(starts), int(count, 16))
+    told = (int(refusal), starts, place, refused, int(read, 16))
+    same(f"{where}: refusal, starts, place, refused, read", model.sweep(image, stopping), told)
 
 
 def check_listings(model):

@@ -135,14 +135,15 @@ class Model:
         return found
 
     def sweep(self, image, stopping):
-        """Refusal, the starts, the place where it stops, and how many refused places it passed."""
+        """Refusal, the starts, the place where it stops, how many refused places it passed, and the bytes that all decodings took."""
         found = self.places(image, stopping)
         starts = [place for place, answer in found if not answer.refusal]
         refused = [(place, answer.refusal) for place, answer in found if answer.refusal]
+        read = sum(answer.taken for _, answer in found)
         if stopping and refused:
             place, refusal = refused[0]
-            return refusal, starts, place, 0
-        return 0, starts, len(image), len(refused)
+            return refusal, starts, place, 0, read
+        return 0, starts, len(image), len(refused), read
 
     def line(self, place, r):
         words = [f"{place:04X}", f"{r.length:X}", r.width, r.opcode + ("." + r.size if r.size else "")]
@@ -162,7 +163,7 @@ class Model:
         if len(image) > LONGEST_IMAGE:
             return ["REFUSED 7"]
         lines = [self.listed(place, answer) for place, answer in self.places(image, stopping)]
-        refusal, _, place, _ = self.sweep(image, stopping)
+        refusal, _, place, *_ = self.sweep(image, stopping)
         return lines if refusal else lines + [f"END {place:04X}"]
 
     def listed(self, place, answer):

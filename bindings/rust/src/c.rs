@@ -29,23 +29,27 @@ extern "C" {
     ) -> u32;
 
     /// The starts of an image's instructions, to its end: a refused place is counted, and the next byte decoded. Returns 0, and leaves how many
-    /// starts were kept, the image's length and how many places were refused; or returns 7 or 6, and leaves 0 and the starts as they were.
+    /// starts were kept, the image's length, how many places were refused and how many bytes all decodings took, at most three times the image's
+    /// length; or returns 7 or 6, and leaves 0 and the starts as they were.
     pub fn m16c_sweep(
         image: *const u8, image_length: usize,
         starts: *mut u16, starts_length: usize,
         count: *mut usize,
         place: *mut usize,
         refused: *mut usize,
+        read: *mut usize,
     ) -> u32;
 
     /// The starts of an image's instructions, to its end or the first refusal. Returns that refusal, 0 at the end, and leaves how many starts
-    /// were kept, where decoding stopped, and 0 for refused; or returns 7 or 6, and leaves 0 and the starts as they were.
+    /// were kept, where decoding stopped, 0 for refused and how many bytes all decodings took, the refused one too, at most the image's length;
+    /// or returns 7 or 6, and leaves 0 and the starts as they were.
     pub fn m16c_sweep_stopping(
         image: *const u8, image_length: usize,
         starts: *mut u16, starts_length: usize,
         count: *mut usize,
         place: *mut usize,
         refused: *mut usize,
+        read: *mut usize,
     ) -> u32;
 
     /// The listing's line of the instruction at a place of an image, without a newline, over the first bytes of a buffer. Returns 0 and leaves
@@ -88,6 +92,7 @@ pub type Sweep = unsafe extern "C" fn(
     count: *mut usize,
     place: *mut usize,
     refused: *mut usize,
+    read: *mut usize,
 ) -> u32;
 
 pub type SweepStopping = unsafe extern "C" fn(
@@ -96,6 +101,7 @@ pub type SweepStopping = unsafe extern "C" fn(
     count: *mut usize,
     place: *mut usize,
     refused: *mut usize,
+    read: *mut usize,
 ) -> u32;
 
 pub type Line = unsafe extern "C" fn(

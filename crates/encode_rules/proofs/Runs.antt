@@ -17,7 +17,7 @@ use Rattle.record.specs.declared.Got.the-variants.{On, Short}
 use Rattle.rows.specs.Row.{disp, imm, imm20, Refusal, InvalidOpcode, InvalidOperand, refusalNo, Read, num, cond, stop, Condition, named, unnamed, Face}
 use Rattle.rows.specs.Codes.{condOf}
 use Rattle.rows.specs.Run.{bytes, withDisp, inFull, inTwenty, readDisp, readInto, accepted, refusal, andThen, past, renamed, judged, run}
-use Rattle.rows.proofs.Bytes.{bytes-small}
+use Rattle.rows.proofs.Bytes.{bytes-small, drop-bytes}
 use Rattle.encode_rules.specs.steps.Digits.{some, grab, digits}
 use Rattle.rows.specs.Bytes.{Bytes}
 use Rattle.encode_rules.proofs.Digits.{spelled, read-back, grab-bytes}
@@ -41,11 +41,6 @@ Runs (num (imm n) ∷ rs) xs f s t = Off n xs (λ v rest. Runs rs rest f (inFull
 Runs (num imm20 ∷ rs) xs f s t = Off 3 xs (λ v rest. Runs rs rest f (inTwenty v s) t)
 Runs (cond ∷ rs) xs f s t = Off 1 xs (λ v rest. (o : Opcode) × (condOf v ≡ named o) × Runs rs rest (renamed o f) (past s) t)
 Runs (stop e ∷ rs) xs f s t = ⊥
-
-drop-bytes : (p : ℕ) (bs : List ℕ) → Bytes bs → Bytes (drop p bs)
-drop-bytes zero bs h = h
-drop-bytes (suc p) [] h = tt
-drop-bytes (suc p) (b ∷ bs) h = drop-bytes p bs (h .1)
 
 -- bytes that are there come off
 off : (n p : ℕ) (bs : List ℕ) → Bytes bs → p + n ≤ length bs → (P : ℕ → List ℕ → Type 0) → P (bytes bs p n) (drop (p + n) bs) → Off n (drop p bs) P

@@ -1,4 +1,5 @@
--- The promise of the sweeps for C leaves one outcome: the number returned, count, place and refused, and every entry of the list passed in.
+-- The promise of the sweeps for C leaves one outcome: the number returned, count, place, refused and read, and every entry of the list that
+-- was passed in.
 -- Assumes nothing.
 use Prim.Native.Nat.{ℕ}
 use mathlib.Core.Path.{_≡_, ap}
@@ -7,8 +8,9 @@ use Rattle.sweep.specs.declared.Rule.{Rule}
 use Rattle.sweep.proofs.Outcomes.{sweeps-once}
 use Rattle.m16c_sweep.specs.Parts.{SweepsInParts}
 
-pub sweeps-in-parts-once : {rule : Rule} {image starts : List ℕ} {r s n m p q k l : ℕ} {after later : List ℕ}
-    → SweepsInParts rule image starts r n p k after → SweepsInParts rule image starts s m q l later → (r ≡ s) × (n ≡ m) × (p ≡ q) × (k ≡ l) × (after ≡ later)
+pub sweeps-in-parts-once : {rule : Rule} {image starts : List ℕ} {r s n m p q k l d f : ℕ} {after later : List ℕ}
+    → SweepsInParts rule image starts r n p k d after → SweepsInParts rule image starts s m q l f later
+    → (r ≡ s) × (n ≡ m) × (p ≡ q) × (k ≡ l) × (d ≡ f) × (after ≡ later)
 sweeps-in-parts-once a b =
     let e = sweeps-once a b in
-    (ap (λ x. x .refusal) (e .0), ap (λ x. x .count) (e .0), ap (λ x. x .place) (e .0), ap (λ x. x .refused) (e .0), e .1)
+    (ap (λ x. x .refusal) (e .0), ap (λ x. x .count) (e .0), ap (λ x. x .place) (e .0), ap (λ x. x .refused) (e .0), ap (λ x. x .read) (e .0), e .1)

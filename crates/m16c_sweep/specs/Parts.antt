@@ -5,9 +5,9 @@ use Rattle.sweep.specs.declared.Rule.{Rule}
 use Rattle.sweep.specs.declared.Swept.{Swept}
 use Rattle.sweep.specs.Sweep.{Sweeps}
 
-abbrev pub sweptIn : (r count place refused : ℕ) → Swept
-sweptIn r count place refused = record { refusal = r; count = count; place = place; refused = refused }
+abbrev pub sweptIn : (r count place refused read : ℕ) → Swept
+sweptIn r count place refused read = record { refusal = r; count = count; place = place; refused = refused; read = read }
 
--- the promise, by rule: the refusal is returned, and count, place, refused and starts are left as the sweep says
-abbrev pub SweepsInParts : Rule → (image starts : List ℕ) (r count place refused : ℕ) (after : List ℕ) → Type 0
-SweepsInParts rule image starts r count place refused after = Sweeps rule image starts (sweptIn r count place refused) after
+-- the promise, by rule: the refusal is returned, and count, place, refused, read and starts are left as the sweep says
+abbrev pub SweepsInParts : Rule → (image starts : List ℕ) (r count place refused read : ℕ) (after : List ℕ) → Type 0
+SweepsInParts rule image starts r count place refused read after = Sweeps rule image starts (sweptIn r count place refused read) after

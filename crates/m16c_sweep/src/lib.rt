@@ -5,7 +5,8 @@ ghost use Rattle.sweep.specs.declared.Rule.{Rule};
 use sweep::Swept;
 
 // The starts of an image's instructions, to its end: a refused place is counted, and the next byte decoded. Returns 0, and leaves how many
-// starts were kept, the image's length and how many places were refused; or returns 7 or 6, and leaves 0 and the starts as they were.
+// starts were kept, the image's length, how many places were refused and how many bytes all decodings took, at most three times the image's
+// length; or returns 7 or 6, and leaves 0 and the starts as they were.
 #[no_mangle]
 pub extern "C" fn m16c_sweep(
     image: &[u8],
@@ -13,14 +14,17 @@ pub extern "C" fn m16c_sweep(
     count: &mut usize,
     place: &mut usize,
     refused: &mut usize,
+    read: &mut usize,
 ) -> u32
-    ensures { λ r. ⌜ SweepsInParts Rule.GoOn (now (image .entry)) (now (starts .entry)) r (now (count .exit)) (now (place .exit)) (now (refused .exit)) (now (starts .exit)) ⌝ }
+    ensures { λ r. ⌜ SweepsInParts Rule.GoOn (now (image .entry)) (now (starts .entry)) r (now (count .exit)) (now (place .exit)) (now (refused .exit)) (now (read .exit)) (now (starts .exit)) ⌝ }
 {
-    in_parts(sweep::sweep(image, starts), count, place, refused)
+    let swept = sweep::sweep(image, starts);
+    in_parts(swept, count, place, refused, read)
 }
 
 // The starts of an image's instructions, to its end or the first refusal. Returns that refusal, 0 at the end, and leaves how many starts
-// were kept, where decoding stopped, and 0 for refused; or returns 7 or 6, and leaves 0 and the starts as they were.
+// were kept, where decoding stopped, 0 for refused and how many bytes all decodings took, the refused one too, at most the image's length;
+// or returns 7 or 6, and leaves 0 and the starts as they were.
 #[no_mangle]
 pub extern "C" fn m16c_sweep_stopping(
     image: &[u8],
@@ -28,17 +32,26 @@ pub extern "C" fn m16c_sweep_stopping(
     count: &mut usize,
     place: &mut usize,
     refused: &mut usize,
+    read: &mut usize,
 ) -> u32
-    ensures { λ r. ⌜ SweepsInParts Rule.Stop (now (image .entry)) (now (starts .entry)) r (now (count .exit)) (now (place .exit)) (now (refused .exit)) (now (starts .exit)) ⌝ }
+    ensures { λ r. ⌜ SweepsInParts Rule.Stop (now (image .entry)) (now (starts .entry)) r (now (count .exit)) (now (place .exit)) (now (refused .exit)) (now (read .exit)) (now (starts .exit)) ⌝ }
 {
-    in_parts(sweep::sweep_stopping(image, starts), count, place, refused)
+    let stopped = sweep::sweep_stopping(image, starts);
+    in_parts(stopped, count, place, refused, read)
 }
 
-fn in_parts(s: Swept, count: &mut usize, place: &mut usize, refused: &mut usize) -> u32
-    ensures { λ r. ⌜ s ≡ sweptIn r (now (count .exit)) (now (place .exit)) (now (refused .exit)) ⌝ }
+fn in_parts(
+    s: Swept,
+    count: &mut usize,
+    place: &mut usize,
+    refused: &mut usize,
+    read: &mut usize,
+) -> u32
+    ensures { λ r. ⌜ s ≡ sweptIn r (now (count .exit)) (now (place .exit)) (now (refused .exit)) (now (read .exit)) ⌝ }
 {
     *count = s.count;
     *place = s.place;
     *refused = s.refused;
+    *read = s.read;
     s.refusal as u32
 }

@@ -13,7 +13,7 @@ use Rattle.line.specs.Characters.{spelled}
 use Rattle.replay.specs.Form.{Gives}
 use Rattle.replay.specs.Hex.{digitAt, byteAt, wordAt, bytesAt}
 
--- bytes given, sixteen bytes; count, refused places or stopping place, refusal; a bit for each start
+-- bytes given, sixteen bytes; bytes read, refused places or stopping place, refusal; a bit for each start
 abbrev pub formOf : Rule → List ℕ
 formOf GoOn = spelled "G################################## ## ## # ####\n"
 formOf Stop = spelled "S################################## ## ## # ####\n"
@@ -35,22 +35,26 @@ abbrev pub refusedIn : Rule → List ℕ → ℕ
 refusedIn GoOn s = byteAt s 39
 refusedIn Stop s = 0
 
--- what the line says that the sweep returns
-abbrev pub sweptIn : Rule → List ℕ → Swept
-sweptIn rule s = record { refusal = digitAt s 42; count = byteAt s 36; place = placeIn rule s; refused = refusedIn rule s }
-
 -- the places of the bits that are set among a word's low n, the highest of them place 0
 unfoldable pub places : ℕ → ℕ → List ℕ
 places zero w = []
 places (suc n) w = places n (w / 2) ++ pick (eqb (w % 2) 1) (n ∷ []) []
+
+-- the starts that the line tells
+abbrev pub startsIn : List ℕ → List ℕ
+startsIn s = places 16 (wordAt s 44)
+
+-- what the line says that the sweep returns, but for the count, which the starts tell
+abbrev pub sweptIn : Rule → List ℕ → (count : ℕ) → Swept
+sweptIn rule s n = record { refusal = digitAt s 42; count = n; place = placeIn rule s; refused = refusedIn rule s; read = byteAt s 36 }
 
 -- the first n entries, of at least as many, are these
 pub record Begins (n : ℕ) (entries these : List ℕ) : Type 0 where
   pub enough : n ≤ length entries
   pub same : take n entries ≡ these
 
--- the sweep of the image, passed sixteen zeros, returns what the line says, and leaves starts that begin with the places of its bits
+-- the sweep of the image, passed sixteen zeros, returns what the line says, and leaves starts that begin with those that it tells
 pub record Right (rule : Rule) (s : List ℕ) : Type 0 where
   pub after : List ℕ
-  pub sweeps : Sweeps rule (imageIn s) (replicate 16 0) (sweptIn rule s) after
-  pub starts : Begins (byteAt s 36) after (places 16 (wordAt s 44))
+  pub sweeps : Sweeps rule (imageIn s) (replicate 16 0) (sweptIn rule s (length (startsIn s))) after
+  pub starts : Begins (length (startsIn s)) after (startsIn s)

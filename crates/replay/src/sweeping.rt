@@ -10,7 +10,7 @@ use crate::hex;
 use sweep::Rule;
 use sweep::Swept;
 
-// Bytes given, at most sixteen; sixteen bytes; count, refused places or stopping place, refusal; a bit for each start.
+// Bytes given, at most sixteen; sixteen bytes; bytes read, refused places or stopping place, refusal; a bit for each start.
 fn has_form(line: &[u8], rule: Rule) -> bool
     ensures { λ r. ⌜ Tells r (Has (formOf rule) (now (line .entry))) ⌝ }
 {
@@ -90,6 +90,9 @@ fn same(x: Swept, y: Swept) -> bool
     if x.refused != y.refused {
         return false;
     }
+    if x.read != y.read {
+        return false;
+    }
     true
 }
 
@@ -114,15 +117,17 @@ fn refused_in(line: &[u8], rule: Rule) -> usize
     }
 }
 
-fn swept_in(line: &[u8], rule: Rule) -> Swept
+// The count is none of the line's numbers: its bits tell it.
+fn swept_in(line: &[u8], rule: Rule, count: usize) -> Swept
     requires { ⌜ length (now line) ≡ 49 ⌝ }
-    ensures { λ r. ⌜ r ≡ sweptIn rule (now (line .entry)) ⌝ }
+    ensures { λ r. ⌜ r ≡ sweptIn rule (now (line .entry)) count ⌝ }
 {
     Swept {
         refusal: hex::digit_at(line, 42),
-        count: hex::byte_at(line, 36) as usize,
+        count: count,
         place: place_in(line, rule),
         refused: refused_in(line, rule),
+        read: hex::byte_at(line, 36) as usize,
     }
 }
 
@@ -132,7 +137,7 @@ pub(crate) fn agrees(line: &[u8], rule: Rule) -> bool
 {
     let mut starts = [0u16; 16];
     let s = swept(line, rule, &mut starts);
-    if same(s, swept_in(line, rule)) {
+    if same(s, swept_in(line, rule, s.count)) {
         return are_bits(&starts, s.count, hex::word_at(line, 44));
     }
     false

@@ -29,6 +29,9 @@ tested : (f : ℕ → Bool) (gs : List Group) → T (everyFirst f gs) → EachFi
 tested f [] t = tt
 tested f (g ∷ gs) t = (both-left (f (g .byte)) (everyFirst f gs) t, tested f gs (both-right (f (g .byte)) (everyFirst f gs) t))
 
+pub every-first : (f : ℕ → Bool) → T (everyFirst f groups) → (a : ℕ) → known a ≡ true → T (f a)
+every-first f t = each-first (λ a. T (f a)) (tested f groups t)
+
 pub every-code : (f : ℕ → ℕ → Bool) → T (everyCode f) → (b : ℕ) → b < 256 → (a : ℕ) → known a ≡ true → T (f a b)
 unfolding everyCode
-every-code f t b l a e = upto-at (f a) 256 (each-first (λ a. T (upto (f a) 256)) (tested (λ a. upto (f a) 256) groups t) a e) b l
+every-code f t b l a e = upto-at (f a) 256 (every-first (λ a. upto (f a) 256) t a e) b l

@@ -6,6 +6,8 @@ pub mod Behind
 pub mod All
 pub mod Counts
 pub mod Length
+pub mod Depth
+pub mod Late
 pub mod Refusals
 pub mod Agree
 pub mod Bytes

@@ -1,6 +1,8 @@
--- What decoding refuses with, of any row table: a number up to 4, so that what says that a buffer is too small is no refusal of bytes.
+-- What decoding refuses with, of any row table: a number up to 4, so that what says that a buffer is too small is no refusal of bytes; and 4
+-- by the first byte alone, since a row refuses with a number up to 3.
 -- Assumes nothing.
 use Prim.Native.Nat.{ℕ, _≤_}
+use mathlib.Core.Path.{_≡_, refl}
 use mathlib.Core.Bool.{Bool, true, false}
 use mathlib.Core.List.{List, [], _∷_}
 use native.Mathlib.Omega.{arith}
@@ -17,7 +19,7 @@ use Rattle.rows.specs.Codes.{condOf}
 use Rattle.rows.specs.Run.{reading, andThen, judged, past, renamed, refusal, run, runRow, begun, decodeBy}
 
 abbrev Listed : Answer → Type 0
-Listed x = x .refusal ≤ 4
+Listed x = x .refusal ≤ 3
 
 picked : (t : Bool) (x y : Answer) → Listed x → Listed y → Listed (pick t x y)
 picked true x y h g = h
@@ -40,10 +42,24 @@ run-listed (cond ∷ rs) bs f s =
 run-listed (stop InvalidOpcode ∷ rs) bs f s = omega arith
 run-listed (stop InvalidOperand ∷ rs) bs f s = omega arith
 
+-- a row's refusal, or that of a first byte outside
+abbrev First : Answer → Type 0
+First x = (x .refusal ≤ 4) × (x .refusal ≡ 4 → x .taken ≡ 1)
+
+outside : (k : Bool) (x : Answer) → Listed x → First (pick k x (refusal 4 1))
+outside true x l = (omega arith, λ e. absurd (omega arith))
+outside false x l = (omega arith, λ e. refl)
+
 module _ (t : Table) where
-  pub at-most-four : (bs : List ℕ) → decodeBy t bs .refusal ≤ 4
+  first : (bs : List ℕ) → First (decodeBy t bs)
   unfolding decodeBy runRow
-  at-most-four [] = omega arith
-  at-most-four (a ∷ []) = picked (t .known a) _ _ (omega arith) (omega arith)
-  at-most-four (a ∷ b ∷ bs) =
-      picked (t .known a) _ _ (run-listed (t .rowAt a b .reads) (a ∷ b ∷ bs) (t .rowAt a b .face) (begun (t .rowAt a b .number))) (omega arith)
+  first [] = (omega arith, λ e. absurd (omega arith))
+  first (a ∷ []) = outside (t .known a) (refusal 1 1) (omega arith)
+  first (a ∷ b ∷ bs) = outside (t .known a) _ (run-listed (t .rowAt a b .reads) (a ∷ b ∷ bs) (t .rowAt a b .face) (begun (t .rowAt a b .number)))
+
+  pub at-most-four : (bs : List ℕ) → decodeBy t bs .refusal ≤ 4
+  at-most-four bs = first bs .0
+
+  -- a first byte outside is all that is taken
+  pub four-takes-one : (bs : List ℕ) → decodeBy t bs .refusal ≡ 4 → decodeBy t bs .taken ≡ 1
+  four-takes-one bs = first bs .1

@@ -79,7 +79,18 @@ pub row-counted : (r : Row) (a b : ℕ) (bs : List ℕ) → Counted 2 (length (a
 unfolding runRow
 row-counted r a b bs = run-counted (r .reads) (a ∷ b ∷ bs) (r .face) (begun (r .number)) (omega arith)
 
+some : (k : Bool) (x : Answer) → 1 ≤ x .taken → 1 ≤ pick k x (refusal 4 1) .taken
+some true x l = l
+some false x l = omega arith
+
 module _ (t : Table) where
+  -- of bytes one at least is taken
+  pub takes-one : (bs : List ℕ) → 1 ≤ length bs → 1 ≤ decodeBy t bs .taken
+  unfolding decodeBy
+  takes-one [] l = absurd (omega arith)
+  takes-one (a ∷ []) l = some (t .known a) (refusal 1 1) (omega arith)
+  takes-one (a ∷ b ∷ bs) l = some (t .known a) (runRow (t .rowAt a b) (a ∷ b ∷ bs)) (omega (arith, row-counted (t .rowAt a b) a b bs .grown))
+
   pub counted : (bs : List ℕ) → Counted 0 (length bs) (decodeBy t bs)
   unfolding decodeBy
   counted [] = refused-counted _ _ 1 _ (omega arith) (λ e. refl) (omega arith) (omega arith)

@@ -3,6 +3,7 @@ use Prim.Native.Nat.{ℕ, _+_}
 use mathlib.Core.Bool.{Bool}
 use mathlib.Core.List.{List, [], _∷_}
 use lib.Dec.{ltb, eqb}
+use lib.ListN.{getD}
 use Rattle.rows.specs.Row.{Num, disp, imm, imm20, refusalNo, Read, num, cond, stop}
 use Rattle.rows.specs.Rows.{document01}
 
@@ -24,6 +25,10 @@ reach [] = 0
 reach (num k ∷ rs) = bytesOf k + reach rs
 reach (cond ∷ rs) = 1 + reach rs
 reach (stop e ∷ rs) = 0
+
+-- the most bytes that a refusal takes, by its number: 1 to 4
+abbrev pub mostTaken : ℕ → ℕ
+mostTaken e = getD (0 ∷ 6 ∷ 5 ∷ 4 ∷ 1 ∷ []) e 0
 
 -- codes that come to a given end, those of them that are marked, and those whose rows read bytes
 unfoldable pub ends : ℕ → ℕ → ℕ → Bool

@@ -1,6 +1,6 @@
 -- What the laws of walks say of a sweep's answer, by document 01's rows.
 -- Assumes nothing.
-use Prim.Native.Nat.{ℕ, _+_, _≤_}
+use Prim.Native.Nat.{ℕ, _+_, _*_, _≤_}
 use mathlib.Core.Path.{_≡_, refl, ap}
 use mathlib.Core.Bool.{Bool, true, false}
 use mathlib.Core.List.{List}
@@ -8,16 +8,20 @@ use native.Mathlib.Omega.{arith}
 use lib.Dec.{ltb}
 use lib.ListN.{length}
 use borrow.Author.Tests.{le-ltb}
+use Rattle.laws.specs.Choice.{pick}
+use Rattle.rows.specs.Bytes.{Bytes}
 use Rattle.rows.specs.Run.{decodeRows}
 use Rattle.sweep.specs.declared.Rule.{Rule}
 use Rattle.sweep.specs.declared.Rule.the-variants.{GoOn, Stop}
 use Rattle.sweep.specs.Walk.{Walk, walk}
-use Rattle.sweep.specs.Sweep.{lastStep, refusalOf, outcomeOf, whole}
-use Rattle.sweep.specs.Visits.{bytesOf, decodings, total}
+use Rattle.sweep.specs.Sweep.{lastStep, refusalOf, total, Outcome, outcome, outcomeOf, notSwept, whole}
+use Rattle.sweep.specs.Visits.{bytesOf, decodings}
 use Rattle.sweep.proofs.Walk.{by-rows}
 use Rattle.sweep.proofs.Places.{counted}
 use Rattle.sweep.proofs.Rules.{counts-none, same-walk}
 use Rattle.sweep.proofs.GoingOn.{to-the-end, bytes-add-up}
+use Rattle.sweep.proofs.Read.{stopping, six-times, spares}
+use Rattle.sweep.proofs.Eased.{three-times, eases}
 
 -- an image that is not too long, with an entry for each byte
 module _ (bs ss : List ℕ) (h : length bs ≤ 4096) (g : length bs ≤ length ss) where
@@ -34,15 +38,31 @@ module _ (bs ss : List ℕ) (h : length bs ≤ 4096) (g : length bs ≤ length s
       let none : decodings (lastStep w) ≡ 0 = ap decodings (e .1) in
       rw (walked GoOn) (ap refusalOf (e .1), e .0, omega (arith, counted w, none), omega (arith, bytes-add-up by-rows bs 0 (omega arith)))
 
--- stopping counts no refused place, whatever it is given
-pub stops-at-once : (bs ss : List ℕ) → whole Stop bs ss .swept .refused ≡ 0
+-- whatever it is given, a sweep's answer is a refusal or the walk's: what holds of the three holds of it
+answer : (rule : Rule) (bs ss : List ℕ) (P : Outcome → Type 0) → P (outcome (notSwept 7) ss) → P (outcome (notSwept 6) ss) → P (outcomeOf (walk decodeRows rule bs 0) ss)
+    → P (whole rule bs ss)
 unfolding whole
-stops-at-once bs ss = by (ltb 4096 (length bs)) (ltb (length ss) (length bs)) refl refl
+answer rule bs ss P seven six swept = by (ltb 4096 (length bs)) (ltb (length ss) (length bs))
   where
-    by : (a b : Bool) → ltb 4096 (length bs) ≡ a → ltb (length ss) (length bs) ≡ b → whole Stop bs ss .swept .refused ≡ 0
-    by true b e f = rw e
-    by false true e f = rw (e, f)
-    by false false e f = rw (e, f) (ap length (counts-none by-rows bs 0))
+    by : (x y : Bool) → P (pick x (outcome (notSwept 7) ss) (pick y (outcome (notSwept 6) ss) (outcomeOf (walk decodeRows rule bs 0) ss)))
+    by true y = seven
+    by false true = six
+    by false false = swept
+
+-- stopping counts no refused place
+pub stops-at-once : (bs ss : List ℕ) → whole Stop bs ss .swept .refused ≡ 0
+stops-at-once bs ss = answer Stop bs ss (λ x. x .swept .refused ≡ 0) refl refl (ap length (counts-none by-rows bs 0))
+
+-- request A13: stopping reads no more than the image; going on, of bytes, at most six times as much, and at most three times
+pub stopping-reads : (bs ss : List ℕ) → whole Stop bs ss .swept .read ≤ length bs
+stopping-reads bs ss = answer Stop bs ss (λ x. x .swept .read ≤ length bs) (omega arith) (omega arith) (omega (arith, stopping by-rows bs 0))
+
+pub going-on-reads-six : (bs ss : List ℕ) → Bytes bs → whole GoOn bs ss .swept .read ≤ 6 * length bs
+going-on-reads-six bs ss b = answer GoOn bs ss (λ x. x .swept .read ≤ 6 * length bs) (omega arith) (omega arith) (omega (arith, six-times by-rows bs spares b 0))
+
+pub going-on-reads-three : (bs ss : List ℕ) → Bytes bs → whole GoOn bs ss .swept .read ≤ 3 * length bs
+going-on-reads-three bs ss b =
+    answer GoOn bs ss (λ x. x .swept .read ≤ 3 * length bs) (omega arith) (omega arith) (omega (arith, three-times by-rows bs spares b eases 0))
 
 -- an image that the stopping sweep takes to its end: both sweeps return and leave the same
 pub both-alike : (bs ss : List ℕ) → whole Stop bs ss .swept .refusal ≡ 0 → whole GoOn bs ss ≡ whole Stop bs ss

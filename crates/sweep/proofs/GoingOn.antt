@@ -14,8 +14,8 @@ use Rattle.sweep.specs.declared.Rule.the-variants.{GoOn}
 use Rattle.sweep.specs.declared.step.Step.{Step}
 use Rattle.sweep.specs.declared.step.Step.the-variants.{End, Accepted, Refused}
 use Rattle.sweep.specs.Walk.{stepAt, Walk, more, stop, on, onward, walk}
-use Rattle.sweep.specs.Sweep.{lastPlace, lastStep}
-use Rattle.sweep.specs.Visits.{Visits, here, later, bytesOf, Belongs, InOne, Inside, total}
+use Rattle.sweep.specs.Sweep.{lastPlace, lastStep, total}
+use Rattle.sweep.specs.Visits.{Visits, here, later, bytesOf, Belongs, InOne, Inside}
 use Rattle.sweep.proofs.Walk.{Advances, never, Told, told, further, along}
 use Rattle.sweep.proofs.Places.{visited}
 
@@ -31,7 +31,7 @@ stops-at-end p (Accepted r t) e = absurd (never (sym e))
 stops-at-end p (Refused x t) e = absurd (never (sym e))
 
 module _ {reading : List ℕ → Answer} (advances : Advances reading) (bs : List ℕ) where
-  ends : (p : ℕ) (s : Step) → s ≡ stepAt reading bs p → onward GoOn p s ≡ stop → (s ≡ End) × (length bs ≤ p)
+  pub ends : (p : ℕ) (s : Step) → s ≡ stepAt reading bs p → onward GoOn p s ≡ stop → (s ≡ End) × (length bs ≤ p)
   ends p s e o = let z = stops-at-end p s o in (z, told advances bs p (sym z ∙ e))
 
   -- to the image's end, whatever is refused

@@ -1,8 +1,12 @@
 pub mod Walk
+pub mod Took
 pub mod Before
 pub mod Runs
 pub mod Places
 pub mod GoingOn
 pub mod Rules
+pub mod Read
+pub mod Eased
 pub mod Answers
+pub mod Bench
 pub mod Outcomes

@@ -10,8 +10,8 @@ use Rattle.sweep.specs.declared.Rule.{Rule}
 use Rattle.sweep.specs.declared.step.Step.{Step}
 use Rattle.sweep.specs.declared.step.Step.the-variants.{End, Accepted, Refused}
 use Rattle.sweep.specs.Walk.{stepAt, Walk, last, more, stop, on, onward, walk}
-use Rattle.sweep.specs.Sweep.{isAccepted, isRefused, places, lastStep}
-use Rattle.sweep.specs.Visits.{Visits, at-last, here, later, Rises, one, then, passed, decodings, total}
+use Rattle.sweep.specs.Sweep.{isAccepted, isRefused, places, lastStep, total}
+use Rattle.sweep.specs.Visits.{Visits, at-last, here, later, Rises, one, then, passed, decodings}
 use Rattle.sweep.proofs.Walk.{Advances, never, told, further, along}
 
 -- the accepted places, those refused and passed, and the one where the walk stops if it was decoded

@@ -48,6 +48,24 @@ bytes-left bs p End h = omega arith
 bytes-left bs p (Accepted r t) h = h .2
 bytes-left bs p (Refused e t) h = omega (arith, h .0)
 
+-- the answer that a step comes from
+abbrev pub From : Answer → Step → Type 0
+From x End = Unit {0}
+From x (Accepted r t) = x .refusal ≡ 0
+From x (Refused e t) = (x .refusal ≡ 0 → ⊥) × (x .refusal ≡ e) × (x .taken ≡ t)
+
+pub from : (reading : List ℕ → Answer) (bs : List ℕ) (p : ℕ) {s : Step} → s ≡ stepAt reading bs p → From (reading (drop p bs)) s
+unfolding stepAt
+from reading bs p e = subst (From x) (sym e) (by (leb (length bs) p) (eqb (x .refusal) 0) refl refl)
+  where
+    x : Answer
+    x = reading (drop p bs)
+
+    by : (a b : Bool) → leb (length bs) p ≡ a → eqb (x .refusal) 0 ≡ b → From x (stepAt reading bs p)
+    by true b e f = rw e tt
+    by false true e f = rw (e, f) (eqb-true _ 0 f)
+    by false false e f = rw (e, f) (eqb-false _ 0 f, refl, refl)
+
 module _ {reading : List ℕ → Answer} (advances : Advances reading) (bs : List ℕ) where
   pub told : (p : ℕ) {s : Step} → s ≡ stepAt reading bs p → Told bs p s
   unfolding stepAt

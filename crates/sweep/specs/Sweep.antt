@@ -1,6 +1,6 @@
--- Document 01's sweep and request A1's, read off the walk by their rule: the accepted places, how many were refused and passed, and where
--- and why it stops.
-use Prim.Native.Nat.{ℕ}
+-- Document 01's sweep and request A1's, read off the walk by their rule: the accepted places, how many were refused and passed, where and
+-- why it stops, and by request A13 how many bytes its decodings took.
+use Prim.Native.Nat.{ℕ, _+_}
 use mathlib.Core.Path.{_≡_}
 use mathlib.Core.Bool.{Bool, true, false}
 use mathlib.Core.List.{List, [], _∷_}
@@ -46,6 +46,17 @@ refusalOf End = 0
 refusalOf (Accepted r t) = 0
 refusalOf (Refused e t) = e
 
+-- a number of each visited place, all together
+abbrev pub total : (Step → ℕ) → Walk → ℕ
+total of (last p s) = of s
+total of (more p s w) = of s + total of w
+
+-- request A13: the bytes that the decoding at a place took, accepted or refused; at the end nothing is decoded
+abbrev pub taken : Step → ℕ
+taken End = 0
+taken (Accepted r t) = t
+taken (Refused e t) = t
+
 -- what is returned, and the list of starts as it is left
 pub record Outcome : Type 0 where
   pub swept : Swept
@@ -54,15 +65,20 @@ pub record Outcome : Type 0 where
 abbrev pub outcome : Swept → List ℕ → Outcome
 outcome r ss = record { swept = r; starts = ss }
 
--- the starts are the accepted places, over the first entries; a place where the walk stops is not counted as refused
+-- the starts are the accepted places, over the first entries; a place where the walk stops is not counted as refused, but what its decoding
+-- took was read
 abbrev pub outcomeOf : Walk → List ℕ → Outcome
-outcomeOf w ss =
-    outcome (record { refusal = refusalOf (lastStep w); count = length (places isAccepted w); place = lastPlace w; refused = length (places isRefused w) })
-    (over (places isAccepted w) ss)
+outcomeOf w ss = outcome (record {
+  refusal = refusalOf (lastStep w);
+  count = length (places isAccepted w);
+  place = lastPlace w;
+  refused = length (places isRefused w);
+  read = total taken w;
+}) (over (places isAccepted w) ss)
 
 -- 0 for all but the refusal, no entry touched
 abbrev pub notSwept : ℕ → Swept
-notSwept e = record { refusal = e; count = 0; place = 0; refused = 0 }
+notSwept e = record { refusal = e; count = 0; place = 0; refused = 0; read = 0 }
 
 -- 7 for an image over 4,096 bytes, then 6 for fewer entries than bytes
 unfoldable pub whole : Rule → List ℕ → List ℕ → Outcome

@@ -55,8 +55,3 @@ abbrev pub decodings : Step → ℕ
 decodings End = 0
 decodings (Accepted r t) = 1
 decodings (Refused e t) = 1
-
--- a number of each visited place, all together
-abbrev pub total : (Step → ℕ) → Walk → ℕ
-total of (last p s) = of s
-total of (more p s w) = of s + total of w

@@ -1,9 +1,9 @@
 // Decoding repeated over an image, by a rule: where its instructions start, and what becomes of the places that are refused.
-ghost use Prim.Native.Nat.{_≤_};
+ghost use Prim.Native.Nat.{_+_, _-_, _≤_};
 ghost use mathlib.Core.Path.{_≡_};
 ghost use lib.ListN.{length};
 ghost use Rattle.sweep.specs.Sweep.{notSwept, Sweeps};
-ghost use Rattle.sweep.specs.steps.Before.{Runs};
+ghost use Rattle.sweep.specs.steps.Before.{Took, Runs};
 use record::refusal;
 use step::Step;
 
@@ -15,17 +15,20 @@ pub enum Rule {
     Stop,
 }
 
-// How many starts were kept, where decoding stopped and the refusal there, 0 at the image's end, and how many refused places were passed.
+// How many starts were kept, where decoding stopped and the refusal there, 0 at the image's end, how many refused places were passed, and
+// how many bytes all decodings took.
 pub struct Swept {
     pub refusal: u8,
     pub count: usize,
     pub place: usize,
     pub refused: usize,
+    pub read: usize,
 }
 
-// What a run breaks out with: the refusal, 0 at the image's end, the starts kept so far, and the place.
+// What a run breaks out with: the refusal and the bytes that it took, both 0 at the image's end, the starts kept so far, and the place.
 struct Stopped {
     refusal: u8,
+    taken: usize,
     count: usize,
     place: usize,
 }
@@ -58,32 +61,56 @@ fn sweep_by(rule: Rule, image: &[u8], starts: &mut [u16]) -> Swept
     let mut count: usize = 0;
     let mut place: usize = 0;
     let mut refused: usize = 0;
+    // The bytes that refused decodings took behind their places: with those before the place they are all that was read.
+    let mut again: usize = 0;
     loop {
         let stopped = run(image, place, starts, count);
         if stopped.refusal == refusal::ACCEPTED {
+            let read = stopped.place + again;
             return Swept {
                 refusal: refusal::ACCEPTED,
                 count: stopped.count,
                 place: stopped.place,
                 refused: refused,
+                read: read,
             };
         }
+        let left = image.len() - stopped.place;
+        let later = read_again(again, stopped.refusal, stopped.taken, left);
         match rule {
             Rule::Stop => {
+                let read = stopped.place + 1 + later;
                 return Swept {
                     refusal: stopped.refusal,
                     count: stopped.count,
                     place: stopped.place,
                     refused: 0,
+                    read: read,
                 };
             }
             Rule::GoOn => {
                 count = stopped.count;
                 place = stopped.place + 1;
                 refused = refused + 1;
+                again = later;
             }
         }
     }
+}
+
+// With the bytes that a refused decoding took behind its place, which are read again. Where the refusal tells how many it took, that number
+// is not looked at: to carry it there from every test that refuses costs the instructions that pass the test.
+fn read_again(before: usize, refusal: u8, taken: usize, left: usize) -> usize
+    requires { ⌜ (Took refusal taken left) × (refusal ≡ 0 → ⊥) × (taken ≤ left) × (before + left ≤ 0x7FFFFFFF) ⌝ }
+    ensures { λ r. ⌜ r ≡ before + (taken - 1) ⌝ }
+{
+    if refusal == refusal::EXHAUSTED_INPUT {
+        return before + (left - 1);
+    }
+    if refusal == refusal::FIRST_BYTE_OUTSIDE {
+        return before;
+    }
+    before + (taken - 1)
 }
 
 // The instructions one behind the other from a place on, to the image's end or the first refusal. Their starts come behind those kept
@@ -100,13 +127,15 @@ fn run(image: &[u8], from: usize, starts: &mut [u16], kept: usize) -> Stopped
             Step::End => {
                 break Stopped {
                     refusal: refusal::ACCEPTED,
+                    taken: 0,
                     count: count,
                     place: place,
                 };
             }
-            Step::Refused(refusal, _) => {
+            Step::Refused(refusal, taken) => {
                 break Stopped {
                     refusal: refusal,
+                    taken: taken,
                     count: count,
                     place: place,
                 };
@@ -129,5 +158,6 @@ fn not_swept(refusal: u8) -> Swept
         count: 0,
         place: 0,
         refused: 0,
+        read: 0,
     }
 }

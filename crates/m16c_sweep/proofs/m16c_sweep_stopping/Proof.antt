@@ -5,7 +5,7 @@ use Rattle.m16c_sweep.proofs.m16c_sweep_stopping.Statement.{statement}
 use Rattle.m16c_sweep.proofs.m16c_sweep_stopping.Tie as tie
 
 returns : tie.Need-returns
-returns c = rw (c .in-parts .ensures) at (c .before .before .before .before .before .before .sweep-stopping .ensures)
+returns c = rw (c .in-parts .ensures) at (c .before .before .before .before .before .before .before .sweep-stopping .ensures)
 
 pub m16c-sweep-stopping-spec : {M : Type 1} → statement M
 m16c-sweep-stopping-spec = tie.close (tie.spec (λ c κs. search needs) (λ c κs. search needs) (λ c. search needs) returns)

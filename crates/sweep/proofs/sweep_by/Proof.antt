@@ -1,6 +1,6 @@
 -- `sweep::sweep_by` meets its contract: what is still to be swept from here is what was to be swept from 0.
 -- Assumes nothing.
-use Prim.Native.Nat.{ℕ, _+_, _-_, _≤_, _<_}
+use Prim.Native.Nat.{ℕ, _+_, _*_, _-_, _≤_, _<_}
 use mathlib.Core.Path.{_≡_, refl, sym, ap, _∙_}
 use mathlib.Core.List.{List}
 use native.Mathlib.Omega.{arith}
@@ -33,17 +33,17 @@ module _ (rule : Rule) (bs ss : List ℕ) where
   unfolding whole
   no-room h g e = sweeps (rw (le-ltb _ _ h, lt-ltb _ _ g) (ap (λ x. outcome x ss) e))
 
-  begun : length bs ≤ 4096 → length bs ≤ length ss → behind (walk decodeRows rule bs 0) 0 0 ss ≡ whole rule bs ss
+  begun : length bs ≤ 4096 → length bs ≤ length ss → behind (walk decodeRows rule bs 0) 0 0 0 ss ≡ whole rule bs ss
   unfolding whole
   begun h g = rw (le-ltb _ _ h, le-ltb _ _ g) (none-before (walk decodeRows rule bs 0) ss)
 
 abbrev Inv-loop : tie.InvT-loop
-Inv-loop rule image starts₀ count₀ place₀ refused₀ starts count place refused =
+Inv-loop rule image starts₀ count₀ place₀ refused₀ again₀ starts count place refused again =
     (count + refused ≤ place) × (place ≤ length image) × (length starts ≡ length starts₀) × (rule ≡ Stop → refused ≡ 0)
-    × (behind (walk decodeRows rule image place) count refused starts ≡ whole rule image starts₀)
+    × (behind (walk decodeRows rule image place) count refused (place + again) starts ≡ whole rule image starts₀) × (again ≤ 4096 * place)
 
 abbrev μ-loop : tie.MeasureT-loop
-μ-loop rule image starts₀ count₀ place₀ refused₀ starts count place refused = length image - place
+μ-loop rule image starts₀ count₀ place₀ refused₀ again₀ starts count place refused again = length image - place
 
 returns : tie.Need-returns Inv-loop μ-loop
 returns c = too-long _ _ _ (omega arith) (c .not-swept .ensures)
@@ -52,7 +52,7 @@ returns-2 : tie.Need-returns-2 Inv-loop μ-loop
 returns-2 c = no-room _ _ _ (omega arith) (omega arith) (c .not-swept2 .ensures)
 
 loop-holds : tie.Need-loop-holds Inv-loop μ-loop
-loop-holds c = (omega arith, omega arith, refl, λ e. refl, begun _ _ _ (omega arith) (omega arith))
+loop-holds c = (omega arith, omega arith, refl, λ e. refl, begun _ _ _ (omega arith) (omega arith), omega arith)
 
 run-requires : tie.Need-run-requires Inv-loop μ-loop
 run-requires c κs = (omega arith, omega (arith, c .before .loop .inv .2), omega arith, omega arith)
@@ -68,48 +68,95 @@ module _ (d : tie.After-run Inv-loop μ-loop) where
   room : turn .loop .count + (length (given .args .image .now) - turn .loop .place) ≤ length (turn .loop .starts)
   room = omega (arith, turn .loop .inv .2)
 
-  goes-on : let r = d .run .result in
+  -- n bytes were read, the run's among them
+  goes-on : {n : ℕ} → turn .loop .place + turn .loop .again + (d .run .result .place - turn .loop .place + d .run .result .taken) ≡ n
+      → let r = d .run .result in
       Continues (given .args .rule) (walk decodeRows (given .args .rule) (given .args .image .now)) (given .args .image .now)
-      (whole (given .args .rule) (given .args .image .now) (given .args .starts .now)) (turn .loop .refused) (r .refusal) (r .count) (r .place) (d .run .last .1 .1 .0)
-  goes-on =
+      (whole (given .args .rule) (given .args .image .now) (given .args .starts .now)) (turn .loop .refused) n (r .refusal) (r .count) (r .place) (d .run .last .1 .1 .0)
+  goes-on read =
       let l = turn .loop in
-      continues by-rows (given .args .image .now) (given .args .rule) (l .place) (l .count) (l .refused) (l .starts) room (d .run .ensures .walked) (l .inv .4)
+      continues by-rows (given .args .image .now) (given .args .rule) (l .place) (l .count) (l .refused) (l .place + l .again) (l .starts) room (d .run .ensures .walked) read
+      (l .inv .4)
+
+abbrev ran : tie.After-struct-known Inv-loop μ-loop → tie.After-run Inv-loop μ-loop
+ran c = c .before .before .before
+
+add-read : tie.Need-add-read Inv-loop μ-loop
+add-read c = let d = ran (c .before .before) in omega (arith, d .run .ensures .inside, turn d .loop .inv .5)
 
 same-length : tie.Need-same-length Inv-loop μ-loop
-same-length c = let d = c .before .before .before .before in d .run .ensures .long ∙ turn d .loop .inv .2
+same-length c = let d = ran (c .before .before) in d .run .ensures .long ∙ turn d .loop .inv .2
 
 returns-3 : tie.Need-returns-3 Inv-loop μ-loop
-returns-3 c = let d = c .before .before .before .before in sweeps _ _ _ (goes-on d .ended (c .if3 .taken))
+returns-3 c =
+    let d = ran (c .before .before) in
+    let end = c .before .if3 .taken in
+    let done = d .run .ensures in
+    sweeps _ _ _ (goes-on d (omega (arith, done .ahead, done .took .none end)) .ended end)
+
+sub-left : tie.Need-sub-left Inv-loop μ-loop
+sub-left c = omega (arith, ran (c .before .before) .run .ensures .inside)
+
+read-again-requires : tie.Need-read-again-requires Inv-loop μ-loop
+read-again-requires c κs =
+    let d = ran (c .before .before) in
+    let done = d .run .ensures in
+    (done .took, c .before .if3 .left, omega (arith, done .inside), omega (arith, done .inside, turn d .loop .inv .5))
+
+-- a refused place: the bytes before it and its own, and what is read again, are those read
+module _ (c : tie.After-read-again Inv-loop μ-loop) where
+  abbrev refused : tie.After-run Inv-loop μ-loop
+  refused = ran (c .before .before .before)
+
+  left : refused .run .result .refusal ≡ 0 → ⊥
+  left = c .before .before .if3 .left
+
+  passed : let d = refused in let l = turn d .loop in
+      l .place + l .again + (d .run .result .place - l .place + d .run .result .taken) ≡ d .run .result .place + 1 + c .read-again .result
+  passed = let done = refused .run .ensures in omega (arith, done .ahead, done .took .some left, c .read-again .ensures)
+
+add-read-2 : tie.Need-add-read-2 Inv-loop μ-loop
+add-read-2 c = omega (arith, refused (c .before .before .before) .run .ensures .inside)
+
+add-read-3 : tie.Need-add-read-3 Inv-loop μ-loop
+add-read-3 c =
+    let d = refused (c .before .before .before) in
+    omega (arith, d .run .ensures .inside, turn d .loop .inv .5, c .before .before .before .read-again .ensures)
 
 same-length-2 : tie.Need-same-length-2 Inv-loop μ-loop
-same-length-2 c = let d = c .before .before .before .before .before .before in d .run .ensures .long ∙ turn d .loop .inv .2
+same-length-2 c = let d = refused (c .before .before .before) in d .run .ensures .long ∙ turn d .loop .inv .2
 
 returns-4 : tie.Need-returns-4 Inv-loop μ-loop
 returns-4 c =
-    let d = c .before .before .before .before .before .before in
+    let asked = c .before .before .before in
+    let d = refused asked in
     let r = d .run .result in
-    let stop = c .enum-told .given .1 in
-    sweeps _ _ _ (ap (λ m. outcomeIn (r .refusal) (r .count) (r .place) m (d .run .last .1 .1 .0)) (sym (turn d .loop .inv .3 stop)) ∙ goes-on d .stopped stop)
+    let stop = c .before .enum-told .given .1 in
+    sweeps _ _ _ (ap (λ m. outcomeIn (r .refusal) (r .count) (r .place) m (r .place + 1 + asked .read-again .result) (d .run .last .1 .1 .0)) (sym (turn d .loop .inv .3 stop)) ∙ goes-on d (passed asked) .stopped stop)
 
 loop-again : tie.Need-loop-again Inv-loop μ-loop
 loop-again c =
-    let d = c .before .before .before .before .before .before .before in
-    let refused = c .before .before .before .if3 .left in
-    let on = c .before .enum-told2 .given .1 in (
-      omega (arith, d .run .ensures .few),
-      omega (arith, goes-on d .inside refused),
-      d .run .ensures .long ∙ turn d .loop .inv .2,
+    let asked = c .before .before .before in
+    let d = refused asked in
+    let on = c .before .enum-told2 .given .1 in
+    let done = d .run .ensures in
+    let rest = goes-on d (passed asked) in (
+      omega (arith, done .few),
+      omega (arith, rest .inside (left asked)),
+      done .long ∙ turn d .loop .inv .2,
       λ stop. absurd (let z : _≡_ {A = ℕ} 0 1 = cc in omega arith),
-      goes-on d .passed on refused,
+      rest .passed on (left asked),
+      omega (arith, done .ahead, done .inside, turn d .loop .inv .5, asked .read-again .ensures),
     )
 
 loop-less : tie.Need-loop-less Inv-loop μ-loop
 loop-less c =
-    let d = c .before .before .before .before .before .before .before in
-    omega (arith, goes-on d .inside (c .before .before .before .if3 .left), d .run .ensures .ahead)
+    let asked = c .before .before .before in
+    let d = refused asked in
+    omega (arith, goes-on d refl .inside (left asked), d .run .ensures .ahead)
 
 add-place : tie.Need-add-place Inv-loop μ-loop
-add-place c = omega (arith, c .before .before .before .before .before .before .before .run .ensures .inside)
+add-place c = omega (arith, refused (c .before .before .before) .run .ensures .inside)
 
 add-refused : tie.Need-add-refused Inv-loop μ-loop
 add-refused c = omega arith
@@ -117,5 +164,5 @@ add-refused c = omega arith
 pub sweep-by-spec : {M : Type 1} → statement M
 sweep-by-spec =
     tie.close
-    (tie.spec Inv-loop μ-loop (λ c κs. search needs) returns (λ c κs. search needs) returns-2 loop-holds run-requires same-length returns-3 (λ c. search needs)
-    same-length-2 returns-4 (λ c. search needs) add-place add-refused loop-less loop-again)
+    (tie.spec Inv-loop μ-loop (λ c κs. search needs) returns (λ c κs. search needs) returns-2 loop-holds run-requires add-read same-length returns-3 sub-left
+    read-again-requires (λ c. search needs) add-read-2 add-read-3 same-length-2 returns-4 (λ c. search needs) add-place add-refused loop-less loop-again)

@@ -8,4 +8,4 @@ returns : tie.Need-returns
 returns c = cc
 
 pub swept-in-spec : {M : Type 1} → statement M
-swept-in-spec = tie.close (tie.spec (λ c κs. search needs) (λ c κs. search needs) (λ c. search needs) (λ c κs. search needs) (λ c κs. search needs) returns)
+swept-in-spec = tie.close (tie.spec (λ c κs. search needs) (λ c κs. search needs) (λ c κs. search needs) (λ c κs. search needs) (λ c. search needs) returns)

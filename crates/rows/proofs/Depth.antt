@@ -1,0 +1,146 @@
+-- How many bytes a refusal takes, for any row table. By 1 all that are left, fewer than the row reads; by 2 and 3 those up to the test that
+-- refuses, and over all rows of document 01 no more than its bound; by 4 one.
+-- Assumes nothing.
+use Prim.Native.Nat.{ℕ, zero, suc, _+_, _≤_, _<_}
+use mathlib.Core.Path.{_≡_, refl, sym, subst}
+use mathlib.Core.Bool.{Bool, true, false}
+use mathlib.Core.List.{List, [], _∷_}
+use native.Mathlib.Omega.{arith}
+use lib.ListN.{length, getD}
+use lib.Dec.{T, leb, ltb, eqb, leb→le}
+use borrow.Author.Tests.{ltb-true, ltb-false, eqb-true, eqb-false}
+use Rattle.record.specs.declared.Answer.{Answer}
+use Rattle.record.specs.declared.Opcode.{Opcode}
+use Rattle.record.specs.declared.Seen.{Seen}
+use Rattle.record.specs.declared.Got.{Got}
+use Rattle.record.specs.declared.Got.the-variants.{On, Short}
+use Rattle.laws.specs.Choice.{pick, both}
+use Rattle.laws.proofs.Choice.{both-left, both-right}
+use Rattle.rows.specs.Row.{InvalidOpcode, InvalidOperand, refusalNo, Read, num, cond, stop, Condition, named, unnamed, Face, Table}
+use Rattle.rows.specs.Codes.{condOf}
+use Rattle.rows.specs.Fate.{bytesOf, reach, mostTaken}
+use Rattle.rows.specs.Rows.{known, rowsOf, document01}
+use Rattle.rows.specs.All.{everyCode}
+use Rattle.rows.specs.Run.{reading, readDisp, readInto, andThen, judged, past, renamed, refusal, run, runRow, begun, decodeBy, decodeRows}
+use Rattle.rows.proofs.Taken.{Went, reading-went, counted}
+use Rattle.rows.proofs.All.{every-code}
+
+module _ (most : ℕ → ℕ) where
+  -- the reads of a row behind n bytes: each test that can refuse has taken no more than the bound of its refusal
+  abbrev pub kept : ℕ → List Read → Bool
+  kept n [] = true
+  kept n (num k ∷ rs) = kept (n + bytesOf k) rs
+  kept n (cond ∷ rs) = both (leb (n + 1) (most 2)) (kept (n + 1) rs)
+  kept n (stop e ∷ rs) = leb n (most (refusalNo e))
+
+  -- an answer to b bytes by reads that go to m: for want of bytes, or within the bound
+  pub record Bounded (b m : ℕ) (x : Answer) : Type 0 where
+    pub short : x .refusal ≡ 1 → b < m
+    pub early : (x .refusal ≡ 0 → ⊥) → (x .refusal ≡ 1 → ⊥) → x .taken ≤ most (x .refusal)
+
+  short-bounded : (b m n : ℕ) → b < m → Bounded b m (refusal 1 n)
+  short-bounded b m n l = record { short = λ e. l; early = λ z o. absurd (o refl) }
+
+  early-bounded : (b m e n : ℕ) → 1 < e → n ≤ most e → Bounded b m (refusal e n)
+  early-bounded b m e n h l = record { short = λ o. absurd (omega arith); early = λ z o. l }
+
+  wider : (b m n : ℕ) (x : Answer) → m ≤ n → Bounded b m x → Bounded b n x
+  wider b m n x h k = record { short = λ e. omega (arith, k .short e); early = k .early }
+
+  picked : (b m : ℕ) (t : Bool) (x y : Answer) → (t ≡ true → Bounded b m x) → (t ≡ false → Bounded b m y) → Bounded b m (pick t x y)
+  picked b m true x y f g = f refl
+  picked b m false x y f g = g refl
+
+  then-bounded : (n m : ℕ) (bs : List ℕ) (s : Seen) (g : Got) (k : Seen → Answer) → Went n (length bs) s g
+      → ((t : Seen) → t .taken ≡ s .taken + n → t .taken ≤ length bs → Bounded (length bs) (t .taken + m) (k t))
+      → Bounded (length bs) (s .taken + (n + m)) (andThen bs g k)
+  then-bounded n m bs s (On t) k w f = wider _ _ _ _ (omega arith) (f t (w .0) (w .1))
+  then-bounded n m bs s Short k w f = short-bounded _ _ _ (omega arith)
+
+  judged-bounded : (b m : ℕ) (s : Seen) (c : Condition) (k : Opcode → Answer) → s .taken + 1 ≤ most 2 → ((o : Opcode) → Bounded b m (k o)) → Bounded b m (judged c s k)
+  judged-bounded b m s (named o) k h f = f o
+  judged-bounded b m s unnamed k h f = early-bounded b m 2 (s .taken + 1) (omega arith) h
+
+  run-bounded : (rs : List Read) (bs : List ℕ) (f : Face) (s : Seen) → s .taken ≤ length bs → T (kept (s .taken) rs)
+      → Bounded (length bs) (s .taken + reach rs) (run rs bs f s)
+  unfolding run
+  run-bounded [] bs f s l t = record { short = λ e. absurd (omega arith); early = λ z o. absurd (z refl) }
+  run-bounded (num k ∷ rs) bs f s l t =
+      then-bounded (bytesOf k) (reach rs) bs s (reading k bs s) (run rs bs f) (reading-went k bs s l)
+      (λ u e h. run-bounded rs bs f u h (subst (λ n. T (kept n rs)) (sym e) t))
+  run-bounded (cond ∷ rs) bs f s l t =
+      picked _ _ (ltb (s .taken) (length bs)) _ _
+      (λ c. let h : s .taken < length bs = ltb-true _ _ c in
+      let here = leb (s .taken + 1) (most 2) in
+      let later = kept (s .taken + 1) rs in
+      judged-bounded _ _ s (condOf (getD bs (s .taken) 0)) _ (leb→le _ _ (both-left here later t))
+      (λ o. wider _ _ _ _ (omega arith) (run-bounded rs bs (renamed o f) (past s) (omega arith) (both-right here later t))))
+      (λ c. let h : length bs ≤ s .taken = ltb-false _ _ c in short-bounded _ _ _ (omega arith))
+  run-bounded (stop InvalidOpcode ∷ rs) bs f s l t = early-bounded _ _ 2 _ (omega arith) (leb→le _ _ t)
+  run-bounded (stop InvalidOperand ∷ rs) bs f s l t = early-bounded _ _ 3 _ (omega arith) (leb→le _ _ t)
+
+  module _ (t : Table) where
+    -- a test of a code: its row reads at most m bytes, and refuses within the bounds
+    unfoldable pub within : ℕ → ℕ → ℕ → Bool
+    within m a b = both (leb (reach (t .rowAt a b .reads)) m) (kept 2 (t .rowAt a b .reads))
+
+    pub row-bounded : (m a b : ℕ) (bs : List ℕ) → T (within m a b) → Bounded (length (a ∷ b ∷ bs)) (2 + m) (runRow (t .rowAt a b) (a ∷ b ∷ bs))
+    unfolding runRow within
+    row-bounded m a b bs w =
+        let reads = t .rowAt a b .reads in
+        let far = leb→le (reach reads) m (both-left (leb (reach reads) m) (kept 2 reads) w) in
+        wider _ _ _ _ (omega (arith, far))
+        (run-bounded reads (a ∷ b ∷ bs) (t .rowAt a b .face) (begun (t .rowAt a b .number)) (omega arith) (both-right (leb (reach reads) m) (kept 2 reads) w))
+
+    -- of every answer, if every code passes
+    pub bounded : (m : ℕ) → 1 ≤ most 4 → ((a b : ℕ) → t .known a ≡ true → b < 256 → T (within m a b)) → (bs : List ℕ) → getD bs 1 0 < 256
+        → Bounded (length bs) (2 + m) (decodeBy t bs)
+    unfolding decodeBy
+    bounded m one w [] l = short-bounded _ _ _ (omega arith)
+    bounded m one w (a ∷ []) l = picked _ _ (t .known a) _ _ (λ e. short-bounded _ _ _ (omega arith)) (λ e. early-bounded _ _ 4 _ (omega arith) one)
+    bounded m one w (a ∷ b ∷ bs) l = picked _ _ (t .known a) _ _ (λ e. row-bounded m a b bs (w a b e l)) (λ e. early-bounded _ _ 4 _ (omega arith) one)
+
+-- document 01, over every code
+all-within : T (everyCode (within mostTaken document01 5))
+unfolding everyCode within rowsOf
+all-within = tt
+
+-- but for 1, which takes all there are, none takes more than five
+above-one : (e : ℕ) → (e ≡ 0 → ⊥) → (e ≡ 1 → ⊥) → mostTaken e ≤ 5
+above-one zero z o = absurd (z refl)
+above-one (suc zero) z o = absurd (o refl)
+above-one (suc (suc zero)) z o = omega arith
+above-one (suc (suc (suc zero))) z o = omega arith
+above-one (suc (suc (suc (suc zero)))) z o = omega arith
+above-one (suc (suc (suc (suc (suc e))))) z o = omega arith
+
+module _ (bs : List ℕ) (second : getD bs 1 0 < 256) (refused : decodeRows bs .refusal ≡ 0 → ⊥) where
+  abbrev x : Answer
+  x = decodeRows bs
+
+  limits : Bounded mostTaken (length bs) 7 x
+  limits = bounded mostTaken document01 5 (omega arith) (λ a b e h. every-code (within mostTaken document01 5) all-within b h a e) bs second
+
+  short-or-early : {P : Type 0} → (x .refusal ≡ 1 → x .taken ≡ length bs → length bs < 7 → P) → (x .taken ≤ mostTaken (x .refusal) → mostTaken (x .refusal) ≤ 5 → P) → P
+  short-or-early {P} short early = by (eqb (x .refusal) 1) refl
+    where
+      by : (o : Bool) → eqb (x .refusal) 1 ≡ o → P
+      by true o = let one = eqb-true _ 1 o in short one (counted document01 bs .whole one) (limits .short one)
+      by false o = let other = eqb-false _ 1 o in early (limits .early refused other) (above-one _ refused other)
+
+  -- a refusal takes at most as many bytes as its number says
+  pub at-most-taken : x .taken ≤ mostTaken (x .refusal)
+  at-most-taken = short-or-early (λ o w l. subst (λ e. x .taken ≤ mostTaken e) (sym o) (omega arith)) (λ t m. t)
+
+  -- so six, and five where there are more than six
+  pub at-most-six : x .taken ≤ 6
+  at-most-six = short-or-early (λ o w l. omega arith) (λ t m. omega arith)
+
+  pub at-most-five : 6 < length bs → x .taken ≤ 5
+  at-most-five more = short-or-early (λ o w l. absurd (omega arith)) (λ t m. omega arith)
+
+-- and there are bytes of which it takes as many
+pub taken-all : (decodeRows (0x74 ∷ 0x0C ∷ 0 ∷ 0 ∷ 0 ∷ 0 ∷ []) ≡ refusal 1 (mostTaken 1)) × (decodeRows (0x7E ∷ 0x2C ∷ 0 ∷ 0 ∷ 7 ∷ []) ≡ refusal 2 (mostTaken 2))
+    × (decodeRows (0x78 ∷ 0xC1 ∷ 0 ∷ 0 ∷ []) ≡ refusal 3 (mostTaken 3)) × (decodeRows (0 ∷ []) ≡ refusal 4 (mostTaken 4))
+unfolding decodeBy runRow run readDisp readInto condOf known rowsOf
+taken-all = (refl, refl, refl, refl)
