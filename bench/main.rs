@@ -57,6 +57,7 @@ struct Out {
     count: usize,
     stop: usize,
     refused: usize,
+    read: usize,
     line: [u8; LONGEST_LINE],
     number: i64,
 }
@@ -175,7 +176,7 @@ fn sweep_each(sweep: Sweep, work: &Workload, out: &mut Out) {
     at_each(work.pieces.iter(), out, |piece, out| {
         let (from, to) = (piece.as_ptr(), out.starts.as_mut_ptr());
         let room = out.starts.len();
-        unsafe { sweep(from, piece.len(), to, room, &mut out.count, &mut out.stop, &mut out.refused) };
+        unsafe { sweep(from, piece.len(), to, room, &mut out.count, &mut out.stop, &mut out.refused, &mut out.read) };
     });
 }
 
@@ -250,18 +251,26 @@ fn random_workload() -> Workload {
     let mut piece = || -> Vec<u8> { (0..LONGEST_IMAGE).map(|_| random.byte()).collect() };
     let pieces: Vec<Vec<u8>> = (0..RANDOM_PIECES).map(|_| piece()).collect();
     let begins = (0..).step_by(LONGEST_IMAGE);
-    let in_image = |(begin, piece): (usize, &Vec<u8>)| visited(piece).into_iter().map(move |(place, _)| begin + place);
+    let in_image = |(begin, piece): (usize, &Vec<u8>)| visited(piece).into_iter().map(move |visit| begin + visit.place);
     let places = begins.zip(&pieces).flat_map(in_image).map(|place| place as u32).collect();
     workload("random".to_string(), pieces.concat(), places, pieces)
 }
 
-/// The places at which a sweep of a piece decodes if it goes on, and the Rust's refusals there.
-fn visited(piece: &[u8]) -> Vec<(usize, u8)> {
+/// A place at which a sweep decodes, the Rust's refusal there and the bytes that it took.
+#[derive(Clone, Copy)]
+struct Visit {
+    place: usize,
+    refusal: u8,
+    taken: usize,
+}
+
+/// The places of a piece that a sweep visits if it goes on.
+fn visited(piece: &[u8]) -> Vec<Visit> {
     let (mut visited, mut place) = (Vec::new(), 0);
     while place < piece.len() {
-        let answer = oracle::answer(&piece[place..]);
-        visited.push((place, answer.refusal));
-        place += if answer.refusal == oracle::ACCEPTED { answer.taken } else { 1 };
+        let oracle::Answer { refusal, taken, .. } = oracle::answer(&piece[place..]);
+        visited.push(Visit { place, refusal, taken });
+        place += if refusal == oracle::ACCEPTED { taken } else { 1 };
     }
     visited
 }
@@ -421,6 +430,7 @@ struct Swept {
     count: usize,
     place: usize,
     refused: usize,
+    read: usize,
     starts: Vec<u16>,
 }
 
@@ -430,8 +440,8 @@ const UNTOUCHED: u16 = u16::MAX;
 /// All that go on sweep a piece to its end, over the same starts; the stopping sweep ends at the first refusal.
 fn check_sweeping(piece: &[u8]) -> Result<(), String> {
     let visited = visited(piece);
-    let end = (piece.len(), oracle::ACCEPTED);
-    let first_refused = visited.iter().position(|(_, refusal)| *refusal != oracle::ACCEPTED);
+    let end = Visit { place: piece.len(), refusal: oracle::ACCEPTED, taken: 0 };
+    let first_refused = visited.iter().position(|visit| visit.refusal != oracle::ACCEPTED);
     let (before, stop) = first_refused.map_or((visited.as_slice(), end), |k| (&visited[..k], visited[k]));
     let going_on = swept_so(piece, &visited, end);
     check_swept("rattle", m16c_sweep, piece, &going_on)?;
@@ -448,21 +458,23 @@ fn check_swept(name: &str, sweep: Sweep, piece: &[u8], expected: &Swept) -> Resu
     Ok(())
 }
 
-/// What a sweep leaves that passes these places, and ends at a place with a refusal.
-fn swept_so(piece: &[u8], passed: &[(usize, u8)], (place, refusal): (usize, u8)) -> Swept {
-    let accepted = passed.iter().filter(|(_, refusal)| *refusal == oracle::ACCEPTED);
-    let mut starts: Vec<u16> = accepted.map(|(place, _)| *place as u16).collect();
+/// What a sweep leaves that passes these places, and ends at another, whose decoding it read too.
+fn swept_so(piece: &[u8], passed: &[Visit], last: Visit) -> Swept {
+    let accepted = passed.iter().filter(|visit| visit.refusal == oracle::ACCEPTED);
+    let mut starts: Vec<u16> = accepted.map(|visit| visit.place as u16).collect();
     let count = starts.len();
     starts.resize(piece.len(), UNTOUCHED);
-    Swept { refusal: refusal.into(), count, place, refused: passed.len() - count, starts }
+    let read = passed.iter().chain([&last]).map(|visit| visit.taken).sum();
+    Swept { refusal: last.refusal.into(), count, place: last.place, refused: passed.len() - count, read, starts }
 }
 
 fn swept(sweep: Sweep, piece: &[u8]) -> Swept {
-    let (mut count, mut place, mut refused) = (usize::MAX, usize::MAX, usize::MAX);
+    let [mut count, mut place, mut refused, mut read] = [usize::MAX; 4];
     let mut starts = vec![UNTOUCHED; piece.len()];
     let (to, room) = (starts.as_mut_ptr(), starts.len());
-    let refusal = unsafe { sweep(piece.as_ptr(), piece.len(), to, room, &mut count, &mut place, &mut refused) };
-    Swept { refusal, count, place, refused, starts }
+    let refusal =
+        unsafe { sweep(piece.as_ptr(), piece.len(), to, room, &mut count, &mut place, &mut refused, &mut read) };
+    Swept { refusal, count, place, refused, read, starts }
 }
 
 fn called(decode: Decode, image: &[u8], place: u32) -> (u32, Record) {
@@ -481,6 +493,7 @@ fn new_out() -> Out {
         count: 0,
         stop: 0,
         refused: 0,
+        read: 0,
         line: [0; LONGEST_LINE],
         number: 0,
     }

@@ -92,7 +92,8 @@ const IMAGE_TOO_LONG: u32 = 7;
 /// The parameters and the answer of the port's `m16c_sweep`.
 ///
 /// # Safety
-/// `image` has `image_len` bytes to read, `starts` has `starts_len` numbers to write, `count`, `place` and `refused` are to be written.
+/// `image` has `image_len` bytes to read, `starts` has `starts_len` numbers to write, `count`, `place`, `refused` and `read` are to be
+/// written.
 #[cfg(any(peer = "sweep_call", peer = "sweep_loop", peer = "both"))]
 #[cfg_attr(any(peer = "sweep_call", peer = "both"), export_name = "rust_sweep_call")]
 #[cfg_attr(peer = "sweep_loop", export_name = "rust_sweep_loop")]
@@ -105,12 +106,14 @@ pub unsafe extern "C" fn rust_sweep(
     count: *mut usize,
     place: *mut usize,
     refused: *mut usize,
+    read: *mut usize,
 ) -> u32 {
     let image = core::slice::from_raw_parts(image, image_len);
     let swept = repeat(image, core::slice::from_raw_parts_mut(starts, starts_len));
     *count = swept.count;
     *place = swept.place;
     *refused = swept.refused;
+    *read = swept.read;
     swept.refusal
 }
 
@@ -119,12 +122,13 @@ struct Swept {
     count: usize,
     place: usize,
     refused: usize,
+    read: usize,
 }
 
-// A refused place is counted, and passed by one byte.
+// A refused place is counted, and passed by one byte; what its decoding took was read too.
 #[inline(always)]
 fn repeat(image: &[u8], starts: &mut [u16]) -> Swept {
-    let mut swept = Swept { refusal: u32::from(ACCEPTED), count: 0, place: 0, refused: 0 };
+    let mut swept = Swept { refusal: u32::from(ACCEPTED), count: 0, place: 0, refused: 0, read: 0 };
     if image.len() > LONGEST_IMAGE {
         return Swept { refusal: IMAGE_TOO_LONG, ..swept };
     }
@@ -134,6 +138,7 @@ fn repeat(image: &[u8], starts: &mut [u16]) -> Swept {
     while swept.place < image.len() {
         let mut inst = fresh();
         let (refusal, taken) = decode_once(&image[swept.place..], &mut inst);
+        swept.read += taken;
         if refusal == ACCEPTED {
             starts[swept.count] = swept.place as u16;
             swept.count += 1;

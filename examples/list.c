@@ -32,9 +32,9 @@ static size_t list_refused(size_t place)
 /* Up to the end of the sweep a place is the next start, or it was refused. */
 static void list(int stopping)
 {
-    size_t count, end, refused, place = 0, k = 0;
-    uint32_t refusal = stopping ? m16c_sweep_stopping(image, length, starts, M16C_LONGEST_IMAGE, &count, &end, &refused)
-                                : m16c_sweep(image, length, starts, M16C_LONGEST_IMAGE, &count, &end, &refused);
+    size_t count, end, refused, read, place = 0, k = 0;
+    uint32_t refusal = stopping ? m16c_sweep_stopping(image, length, starts, M16C_LONGEST_IMAGE, &count, &end, &refused, &read)
+                                : m16c_sweep(image, length, starts, M16C_LONGEST_IMAGE, &count, &end, &refused, &read);
     while (place < end)
         place = k < count && starts[k] == place ? list_instruction(starts[k++]) : list_refused(place);
     if (refusal == M16C_IMAGE_TOO_LONG)

@@ -17,11 +17,15 @@ static uint8_t image[] = {
 
 static uint16_t starts[sizeof image];
 
+/* What a cable to the image would have carried for the sweeps. */
+static size_t carried;
+
 /* Finds the starts of the instructions, and returns how many there are. */
 static size_t sweep(void)
 {
-    size_t count, end, refused;
-    m16c_sweep(image, sizeof image, starts, sizeof image, &count, &end, &refused);
+    size_t count, end, refused, read;
+    m16c_sweep(image, sizeof image, starts, sizeof image, &count, &end, &refused, &read);
+    carried += read;
     return count;
 }
 
@@ -91,5 +95,6 @@ int main(void)
     change(M16C_OPCODE_MOV, 2, M16C_IMM_WIDE, 3);
     change(M16C_OPCODE_SUB, 1, M16C_IMM_WIDE, 2);
     list();
+    printf("the sweeps read %u bytes\n", (unsigned)carried);
     return fflush(stdout) != 0;
 }

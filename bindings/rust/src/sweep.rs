@@ -14,6 +14,9 @@ pub struct Sweep<'a> {
     pub place: usize,
     /// How many places were refused and passed. [`sweep_stopping`] passes none.
     pub refused: usize,
+    /// How many bytes all decodings took, the refused ones too. By [`sweep`] it is at most three times the image's length, since bytes
+    /// behind a refused place are read again; by [`sweep_stopping`] at most the image's length.
+    pub read: usize,
     /// The refusal that stopped it; none at the image's end, so none by [`sweep`].
     pub stopped: Option<Refused>,
 }
@@ -31,16 +34,17 @@ pub fn sweep_stopping<'a>(image: &'a [u8], starts: &'a mut [u16]) -> Result<Swee
 }
 
 fn sweep_by<'a>(function: c::Sweep, image: &'a [u8], starts: &'a mut [u16]) -> Result<Sweep<'a>, Refusal> {
-    let (mut count, mut place, mut refused) = (0, 0, 0);
+    let (mut count, mut place, mut refused, mut read) = (0, 0, 0, 0);
     let (out, room) = (starts.as_mut_ptr(), starts.len());
     // Sound: both are slices, passed with their own lengths and borrowed for the call, and the numbers are ours.
-    let returned = unsafe { function(image.as_ptr(), image.len(), out, room, &mut count, &mut place, &mut refused) };
+    let returned =
+        unsafe { function(image.as_ptr(), image.len(), out, room, &mut count, &mut place, &mut refused, &mut read) };
     let stopped = match accepted(returned) {
         Err(refusal @ (Refusal::TooLittleRoom | Refusal::ImageTooLong)) => return Err(refusal),
         Err(_) => decode(image, place).err(),
         Ok(()) => None,
     };
-    Ok(Sweep { image, starts: &starts[..count], place, refused, stopped })
+    Ok(Sweep { image, starts: &starts[..count], place, refused, read, stopped })
 }
 
 impl<'a> Sweep<'a> {

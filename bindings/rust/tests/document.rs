@@ -144,10 +144,29 @@ fn swept_bytes() {
     assert_eq!((stopping.starts, stopping.place, stopping.refused), (&[0, 7, 10][..], 12, 0));
     assert_eq!(stopping.stopped, Some(Refused { place: 12, refusal: Refusal::InvalidOpcode, taken: 2 }));
     assert_eq!(stopping.to_string(), STOPPED);
+    // Three instructions, and both bytes of the refusal.
+    assert_eq!(stopping.read, 7 + 3 + 2 + 2);
     let going_on = sweep(&IMAGE, &mut starts).expect("a sweep");
     assert_eq!((going_on.starts, going_on.place, going_on.refused), (&[0, 7, 10][..], 14, 2));
     assert_eq!(going_on.stopped, None);
     assert_eq!(going_on.to_string(), format!("{STOPPED}000D REFUSED 4 TAKEN 1\nEND 000E\n"));
+    // The last byte once more, as a place of its own.
+    assert_eq!(going_on.read, 7 + 3 + 2 + 2 + 1);
+}
+
+/// Request A13: what all decodings took, the refused ones too.
+#[test]
+fn read_bytes() {
+    const IMAGE: [u8; 6] = [0x74, 0x0C, 0x76, 0x7D, 0xEB, 0x00];
+    // Nothing but refusals, most of which read to the image's end.
+    let refusals = [0, 1, 2, 3, 4, 5].map(|at| refused(&IMAGE[at..]));
+    assert_eq!(refusals, [(1, 6), (4, 1), (1, 4), (1, 3), (3, 2), (4, 1)]);
+    let mut starts = [0; IMAGE.len()];
+    assert_eq!(sweep(&IMAGE, &mut starts).expect("a sweep").read, 6 + 1 + 4 + 3 + 2 + 1);
+    assert_eq!(sweep_stopping(&IMAGE, &mut starts).expect("a sweep").read, 6);
+    for sweep in [sweep, sweep_stopping] {
+        assert_eq!(sweep(&[], &mut starts).expect("a sweep").read, 0);
+    }
 }
 
 #[test]

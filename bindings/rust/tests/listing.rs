@@ -27,6 +27,14 @@ impl Rule {
             Stop => sweep_stopping(image, starts),
         }
     }
+
+    /// The ceiling of how many bytes a sweep reads.
+    fn most_read(self, length: usize) -> usize {
+        match self {
+            GoOn => 3 * length,
+            Stop => length,
+        }
+    }
 }
 
 fn images() -> Vec<(Rule, &'static [u8])> {
@@ -74,25 +82,28 @@ fn what_is_placed_is_shown_as_its_line() {
     assert_eq!(lines, stored[..stored.len() - 1]);
 }
 
-/// What a sweep finds, in its order, and where and by what it ends.
+/// What a sweep finds, in its order, where and by what it ends, and how many bytes it read.
 #[derive(Debug, PartialEq)]
 struct Found {
     items: Vec<Result<(usize, Instruction), Refused>>,
     place: usize,
+    read: usize,
     stopped: Option<Refused>,
 }
 
 /// Decoding repeated by a rule.
 fn repeated(rule: Rule, image: &[u8]) -> Found {
-    let mut found = Found { items: Vec::new(), place: 0, stopped: None };
+    let mut found = Found { items: Vec::new(), place: 0, read: 0, stopped: None };
     while found.place < image.len() && found.stopped.is_none() {
         match decode(image, found.place) {
             Ok(instruction) => {
                 found.items.push(Ok((found.place, instruction)));
                 found.place += usize::from(instruction.length);
+                found.read += usize::from(instruction.length);
             }
             Err(refused) => {
                 found.items.push(Err(refused));
+                found.read += refused.taken;
                 match rule {
                     GoOn => found.place += 1,
                     Stop => found.stopped = Some(refused),
@@ -111,7 +122,9 @@ fn check_sweep(rule: Rule, image: &[u8]) {
     let mut instructions = swept.instructions();
     let items = instructions.by_ref().map(|item| item.map(|placed| (placed.place, placed.instruction))).collect();
     assert!(instructions.next().is_none() && instructions.next().is_none());
-    assert_eq!(Found { items, place: swept.place, stopped: swept.stopped }, expected, "{rule:?} {image:X?}");
+    let found = Found { items, place: swept.place, read: swept.read, stopped: swept.stopped };
+    assert_eq!(found, expected, "{rule:?} {image:X?}");
+    assert!(swept.read <= rule.most_read(image.len()), "{rule:?} {image:X?}");
     let places: Vec<u16> = expected.items.iter().flatten().map(|(place, _)| *place as u16).collect();
     assert_eq!(swept.starts, places);
     let passed = expected.items.len() - places.len() - usize::from(expected.stopped.is_some());
@@ -138,6 +151,29 @@ fn sweeps_are_decoding_repeated() {
     }
 }
 
+/// Images of up to 64 bytes, from a fixed seed; half of the bytes can begin an instruction, so that much is refused late.
+fn random_images() -> impl Iterator<Item = Vec<u8>> {
+    let begins = |byte: &u8| decode(&[*byte], 0).is_err_and(|refused| refused.refusal == Refusal::ExhaustedInput);
+    let firsts: Vec<u8> = (0..=0xFF).filter(begins).collect();
+    let mut state: u64 = 0x9E37_79B9_7F4A_7C15;
+    let mut below = move |bound: usize| {
+        state ^= state << 13;
+        state ^= state >> 7;
+        state ^= state << 17;
+        (state >> 32) as usize % bound
+    };
+    (0..4000).map(move |_| {
+        let length = below(65);
+        let mut byte = || [firsts[below(firsts.len())], below(0x100) as u8][below(2)];
+        (0..length).map(|_| byte()).collect()
+    })
+}
+
+#[test]
+fn sweeps_of_random_images() {
+    random_images().for_each(|image| check_both(&image));
+}
+
 #[test]
 fn data_between_instructions() {
     const JUMP: [u8; 3] = [0x7D, 0xC8, 0x05];
@@ -159,9 +195,12 @@ END 000B
     let mut starts = [0; LONGEST_IMAGE];
     let swept = sweep(&image, &mut starts).expect("a sweep");
     assert_eq!((swept.starts, swept.place, swept.refused, swept.stopped), (&[0, 8][..], 11, 5, None));
+    // Two jumps of 3 bytes, and what the five refusals took.
+    assert_eq!(swept.read, 3 + 1 + 1 + 1 + 2 + 1 + 3);
     let swept = sweep_stopping(&image, &mut starts).expect("a sweep");
     let stopped = Refused { place: 3, refusal: Refusal::FirstByteOutside, taken: 1 };
     assert_eq!((swept.starts, swept.place, swept.refused, swept.stopped), (&[0][..], 3, 0, Some(stopped)));
+    assert_eq!(swept.read, 3 + 1);
 }
 
 #[test]

@@ -12,6 +12,14 @@ const NUMBERS: usize = 13;
 
 const SWEEPS: [Sweep; 2] = [m16c_sweep, m16c_sweep_stopping];
 
+/// What a sweep returns, and what it leaves: count, place, refused and read.
+unsafe fn swept(sweep: Sweep, image: *const u8, length: usize, starts: *mut u16, room: usize) -> (u32, [usize; 4]) {
+    let mut left = [9; 4];
+    let [count, place, refused, read] = &mut left;
+    let returned = sweep(image, length, starts, room, count, place, refused, read);
+    (returned, left)
+}
+
 #[test]
 fn no_image() {
     let (mut record, mut line, mut starts) = ([9; NUMBERS], [9; LONGEST_LINE], [9; 3]);
@@ -23,10 +31,8 @@ fn no_image() {
         assert_eq!((listed, line, length), (EXHAUSTED_INPUT, [9; LONGEST_LINE], 0));
     }
     for sweep in SWEEPS {
-        let (mut count, mut place, mut refused) = (9, 9, 9);
-        let (out, room) = (starts.as_mut_ptr(), starts.len());
-        let swept = unsafe { sweep(null(), 0, out, room, &mut count, &mut place, &mut refused) };
-        assert_eq!((swept, starts, count, place, refused), (0, [9; 3], 0, 0, 0));
+        let swept = unsafe { swept(sweep, null(), 0, starts.as_mut_ptr(), starts.len()) };
+        assert_eq!((swept, starts), ((0, [0; 4]), [9; 3]));
     }
 }
 
@@ -41,9 +47,8 @@ fn no_room() {
     let listed = unsafe { m16c_line(image.as_ptr(), image.len(), 0, null_mut(), 0, &mut length) };
     assert_eq!((listed, length), (TOO_LITTLE_ROOM, 0));
     for sweep in SWEEPS {
-        let (mut count, mut place, mut refused) = (9, 9, 9);
-        let swept = unsafe { sweep(image.as_ptr(), image.len(), null_mut(), 0, &mut count, &mut place, &mut refused) };
-        assert_eq!((swept, count, place, refused), (TOO_LITTLE_ROOM, 0, 0, 0));
+        let swept = unsafe { swept(sweep, image.as_ptr(), image.len(), null_mut(), 0) };
+        assert_eq!(swept, (TOO_LITTLE_ROOM, [0; 4]));
     }
     for place in [0, 1, usize::MAX] {
         let encoded = unsafe { m16c_encode(record.as_ptr(), record.len(), null_mut(), 0, place, &mut length) };
@@ -58,9 +63,7 @@ fn nothing_at_all() {
     assert_eq!(unsafe { m16c_encode(null(), 0, null_mut(), 0, 0, &mut length) }, NO_STRING);
     assert_eq!(unsafe { m16c_line(null(), 0, 0, null_mut(), 0, &mut length) }, EXHAUSTED_INPUT);
     for sweep in SWEEPS {
-        let (mut count, mut place, mut refused) = (9, 9, 9);
-        assert_eq!(unsafe { sweep(null(), 0, null_mut(), 0, &mut count, &mut place, &mut refused) }, 0);
-        assert_eq!((count, place, refused), (0, 0, 0));
+        assert_eq!(unsafe { swept(sweep, null(), 0, null_mut(), 0) }, (0, [0; 4]));
     }
     assert_eq!(unsafe { m16c_operand_number(null(), 0, 0, &mut number) }, NO_STRING);
     assert_eq!((length, number), (0, 0));
