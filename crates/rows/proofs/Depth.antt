@@ -100,10 +100,9 @@ module _ (most : ℕ → ℕ) where
     bounded m one w (a ∷ []) l = picked _ _ (t .known a) _ _ (λ e. short-bounded _ _ _ (omega arith)) (λ e. early-bounded _ _ 4 _ (omega arith) one)
     bounded m one w (a ∷ b ∷ bs) l = picked _ _ (t .known a) _ _ (λ e. row-bounded m a b bs (w a b e l)) (λ e. early-bounded _ _ 4 _ (omega arith) one)
 
--- document 01, over every code
-all-within : T (everyCode (within mostTaken document01 5))
-unfolding everyCode within rowsOf
-all-within = tt
+-- a table whose codes pass by the bounds of document 01
+abbrev pub Passes : Table → Type 0
+Passes t = (a b : ℕ) → t .known a ≡ true → b < 256 → T (within mostTaken t 5 a b)
 
 -- but for 1, which takes all there are, none takes more than five
 above-one : (e : ℕ) → (e ≡ 0 → ⊥) → (e ≡ 1 → ⊥) → mostTaken e ≤ 5
@@ -114,18 +113,18 @@ above-one (suc (suc (suc zero))) z o = omega arith
 above-one (suc (suc (suc (suc zero)))) z o = omega arith
 above-one (suc (suc (suc (suc (suc e))))) z o = omega arith
 
-module _ (bs : List ℕ) (second : getD bs 1 0 < 256) (refused : decodeRows bs .refusal ≡ 0 → ⊥) where
+module _ (t : Table) (passes : Passes t) (bs : List ℕ) (second : getD bs 1 0 < 256) (refused : decodeBy t bs .refusal ≡ 0 → ⊥) where
   abbrev x : Answer
-  x = decodeRows bs
+  x = decodeBy t bs
 
   limits : Bounded mostTaken (length bs) 7 x
-  limits = bounded mostTaken document01 5 (omega arith) (λ a b e h. every-code (within mostTaken document01 5) all-within b h a e) bs second
+  limits = bounded mostTaken t 5 (omega arith) passes bs second
 
   short-or-early : {P : Type 0} → (x .refusal ≡ 1 → x .taken ≡ length bs → length bs < 7 → P) → (x .taken ≤ mostTaken (x .refusal) → mostTaken (x .refusal) ≤ 5 → P) → P
   short-or-early {P} short early = by (eqb (x .refusal) 1) refl
     where
       by : (o : Bool) → eqb (x .refusal) 1 ≡ o → P
-      by true o = let one = eqb-true _ 1 o in short one (counted document01 bs .whole one) (limits .short one)
+      by true o = let one = eqb-true _ 1 o in short one (counted t bs .whole one) (limits .short one)
       by false o = let other = eqb-false _ 1 o in early (limits .early refused other) (above-one _ refused other)
 
   -- a refusal takes at most as many bytes as its number says
@@ -139,7 +138,15 @@ module _ (bs : List ℕ) (second : getD bs 1 0 < 256) (refused : decodeRows bs .
   pub at-most-five : 6 < length bs → x .taken ≤ 5
   at-most-five more = short-or-early (λ o w l. absurd (omega arith)) (λ t m. omega arith)
 
--- and there are bytes of which it takes as many
+-- document 01, over every code
+all-within : T (everyCode (within mostTaken document01 5))
+unfolding everyCode within rowsOf
+all-within = tt
+
+pub codes-pass : Passes document01
+codes-pass a b e l = every-code (within mostTaken document01 5) all-within b l a e
+
+-- there are bytes of which each refusal takes as many
 pub taken-all : (decodeRows (0x74 ∷ 0x0C ∷ 0 ∷ 0 ∷ 0 ∷ 0 ∷ []) ≡ refusal 1 (mostTaken 1)) × (decodeRows (0x7E ∷ 0x2C ∷ 0 ∷ 0 ∷ 7 ∷ []) ≡ refusal 2 (mostTaken 2))
     × (decodeRows (0x78 ∷ 0xC1 ∷ 0 ∷ 0 ∷ []) ≡ refusal 3 (mostTaken 3)) × (decodeRows (0 ∷ []) ≡ refusal 4 (mostTaken 4))
 unfolding decodeBy runRow run readDisp readInto condOf known rowsOf

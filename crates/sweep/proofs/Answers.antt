@@ -10,18 +10,21 @@ use lib.ListN.{length}
 use borrow.Author.Tests.{le-ltb}
 use Rattle.laws.specs.Choice.{pick}
 use Rattle.rows.specs.Bytes.{Bytes}
+use Rattle.rows.specs.Rows.{document01}
 use Rattle.rows.specs.Run.{decodeRows}
+use Rattle.rows.proofs.Depth.{codes-pass}
+use Rattle.rows.proofs.Late.{firsts-spaced}
 use Rattle.sweep.specs.declared.Rule.{Rule}
 use Rattle.sweep.specs.declared.Rule.the-variants.{GoOn, Stop}
-use Rattle.sweep.specs.Walk.{Walk, walk}
+use Rattle.sweep.specs.Walk.{walk}
 use Rattle.sweep.specs.Sweep.{lastStep, refusalOf, total, Outcome, outcome, outcomeOf, notSwept, whole}
 use Rattle.sweep.specs.Visits.{bytesOf, decodings}
 use Rattle.sweep.proofs.Walk.{by-rows}
 use Rattle.sweep.proofs.Places.{counted}
 use Rattle.sweep.proofs.Rules.{counts-none, same-walk}
 use Rattle.sweep.proofs.GoingOn.{to-the-end, bytes-add-up}
-use Rattle.sweep.proofs.Read.{stopping, six-times, spares}
-use Rattle.sweep.proofs.Eased.{three-times, eases}
+use Rattle.sweep.proofs.Read.{stopping, six-times, spares-by}
+use Rattle.sweep.proofs.Eased.{three-times, eases-by}
 
 -- an image that is not too long, with an entry for each byte
 module _ (bs ss : List ℕ) (h : length bs ≤ 4096) (g : length bs ≤ length ss) where
@@ -58,11 +61,11 @@ pub stopping-reads : (bs ss : List ℕ) → whole Stop bs ss .swept .read ≤ le
 stopping-reads bs ss = answer Stop bs ss (λ x. x .swept .read ≤ length bs) (omega arith) (omega arith) (omega (arith, stopping by-rows bs 0))
 
 pub going-on-reads-six : (bs ss : List ℕ) → Bytes bs → whole GoOn bs ss .swept .read ≤ 6 * length bs
-going-on-reads-six bs ss b = answer GoOn bs ss (λ x. x .swept .read ≤ 6 * length bs) (omega arith) (omega arith) (omega (arith, six-times by-rows bs spares b 0))
+going-on-reads-six bs ss b = answer GoOn bs ss (λ x. x .swept .read ≤ 6 * length bs) (omega arith) (omega arith) (omega (arith, six-times by-rows bs (spares-by document01 codes-pass) b 0))
 
 pub going-on-reads-three : (bs ss : List ℕ) → Bytes bs → whole GoOn bs ss .swept .read ≤ 3 * length bs
 going-on-reads-three bs ss b =
-    answer GoOn bs ss (λ x. x .swept .read ≤ 3 * length bs) (omega arith) (omega arith) (omega (arith, three-times by-rows bs spares b eases 0))
+    answer GoOn bs ss (λ x. x .swept .read ≤ 3 * length bs) (omega arith) (omega arith) (omega (arith, three-times by-rows bs (spares-by document01 codes-pass) b (eases-by document01 codes-pass firsts-spaced) 0))
 
 -- an image that the stopping sweep takes to its end: both sweeps return and leave the same
 pub both-alike : (bs ss : List ℕ) → whole Stop bs ss .swept .refusal ≡ 0 → whole GoOn bs ss ≡ whole Stop bs ss

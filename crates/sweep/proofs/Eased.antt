@@ -14,10 +14,11 @@ use Rattle.laws.specs.Range.{upto}
 use Rattle.laws.proofs.Range.{upto-at}
 use Rattle.record.specs.declared.Answer.{Answer}
 use Rattle.rows.specs.Bytes.{Bytes}
-use Rattle.rows.specs.Run.{decodeRows}
+use Rattle.rows.specs.Row.{Table}
+use Rattle.rows.specs.Run.{decodeBy}
 use Rattle.rows.proofs.Bytes.{at-bytes, drop-bytes}
-use Rattle.rows.proofs.Depth.{at-most-five}
-use Rattle.rows.proofs.Late.{before-none01}
+use Rattle.rows.proofs.Depth.{Passes, at-most-five}
+use Rattle.rows.proofs.Late.{Spaced, before-none}
 use Rattle.sweep.specs.declared.Rule.the-variants.{GoOn}
 use Rattle.sweep.specs.declared.step.Step.{Step}
 use Rattle.sweep.specs.declared.step.Step.the-variants.{End, Accepted, Refused}
@@ -118,9 +119,11 @@ module _ {reading : List ℕ → Answer} (advances : Advances reading) (bs : Lis
         within zero p l = omega (arith, few-left p 0 l)
         within (suc k) p l = here p (λ q g. within k q (omega arith)) (stepAt reading bs p) refl
 
--- document 01's reading
-pub eases : Eases decodeRows
-eases = record {
-  five = λ bs b z l. at-most-five bs (at-bytes 1 bs b) z l;
-  next = λ bs b z l g. let none = before-none01 bs l z g in (λ e. omega (arith, e, ap (λ x. x .refusal) none), omega (arith, ap (λ x. x .taken) none));
+-- decoding by a table
+pub eases-by : (t : Table) → Passes t → Spaced t → Eases (decodeBy t)
+eases-by t passes spaced = record {
+  five = λ bs b z l. at-most-five t passes bs (at-bytes 1 bs b) z l;
+  next = λ bs b z l g.
+      let none = before-none t spaced bs l z g in
+      (λ e. omega (arith, e, ap (λ x. x .refusal) none), omega (arith, ap (λ x. x .taken) none));
 }

@@ -2,15 +2,16 @@
 -- a refusal takes at most six bytes.
 -- Assumes nothing.
 use Prim.Native.Nat.{ℕ, _+_, _*_, _-_, _≤_}
-use mathlib.Core.Path.{_≡_, sym, ap, subst, _∙_}
+use mathlib.Core.Path.{_≡_, sym, subst}
 use mathlib.Core.List.{List}
 use native.Mathlib.Omega.{arith}
 use lib.ListN.{length, drop}
 use Rattle.record.specs.declared.Answer.{Answer}
 use Rattle.rows.specs.Bytes.{Bytes}
-use Rattle.rows.specs.Run.{decodeRows}
+use Rattle.rows.specs.Row.{Table}
+use Rattle.rows.specs.Run.{decodeBy}
 use Rattle.rows.proofs.Bytes.{at-bytes, drop-bytes}
-use Rattle.rows.proofs.Depth.{at-most-six}
+use Rattle.rows.proofs.Depth.{Passes, at-most-six}
 use Rattle.sweep.specs.declared.Rule.the-variants.{GoOn, Stop}
 use Rattle.sweep.specs.declared.step.Step.{Step}
 use Rattle.sweep.specs.declared.step.Step.the-variants.{End, Accepted, Refused}
@@ -54,6 +55,6 @@ module _ {reading : List ℕ → Answer} (advances : Advances reading) (bs : Lis
         leads p q (Accepted r t) w u e o h = let z : p + t ≡ q = cc in omega (arith, h, told advances bs p e)
         leads p q (Refused x t) w u e o h = let z : p + 1 ≡ q = cc in omega (arith, h, told advances bs p e, takes-six p x t e)
 
--- document 01's reading
-pub spares : Spares decodeRows
-spares = record { six = λ bs b z. at-most-six bs (at-bytes 1 bs b) z }
+-- decoding by a table
+pub spares-by : (t : Table) → Passes t → Spares (decodeBy t)
+spares-by t passes = record { six = λ bs b z. at-most-six t passes bs (at-bytes 1 bs b) z }

@@ -10,8 +10,9 @@ use lib.Dec.{leb, eqb}
 use lib.ListN.{length, drop, length-drop}
 use borrow.Author.Tests.{leb-true, leb-false, eqb-true, eqb-false, le-leb}
 use Rattle.record.specs.declared.Answer.{Answer}
+use Rattle.rows.specs.Row.{Table}
 use Rattle.rows.specs.Rows.{document01}
-use Rattle.rows.specs.Run.{decodeRows}
+use Rattle.rows.specs.Run.{decodeBy, decodeRows}
 use Rattle.rows.proofs.Taken.{counted}
 use Rattle.rows.proofs.Length.{at-least}
 use Rattle.sweep.specs.declared.Rule.{Rule}
@@ -142,6 +143,9 @@ module _ {reading : List ℕ → Answer} (advances : Advances reading) (bs : Lis
             subst (P p) (sym (turned p refl))
             (by p (onward rule p (here p)) refl (λ q e. let l = further p q (here p) (told p refl) e in from k q (omega arith)))
 
--- document 01's reading
+-- decoding by any table, and by document 01's
+pub by-table : (t : Table) → Advances (decodeBy t)
+by-table t = record { some = λ bs z. let l = at-least t bs z in omega arith; within = λ bs. counted t bs .within }
+
 pub by-rows : Advances decodeRows
-by-rows = record { some = λ bs z. let l = at-least document01 bs z in omega arith; within = λ bs. counted document01 bs .within }
+by-rows = by-table document01

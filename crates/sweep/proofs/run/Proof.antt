@@ -6,6 +6,7 @@ use mathlib.Core.List.{List}
 use native.Mathlib.Omega.{arith}
 use lib.ListN.{length, length-set}
 use borrow.Author.Needs.{needs}
+use Rattle.rows.specs.Rows.{document01}
 use Rattle.rows.specs.Run.{decodeRows}
 use Rattle.sweep.specs.declared.Rule.the-variants.{Stop}
 use Rattle.sweep.specs.declared.step.Step.{Step}
@@ -98,7 +99,7 @@ returns-2 c =
     let i = here .before .loop .inv in
     let known = c .before .here .given .1 in
     let stands = sym known ∙ here .step-at .ensures in
-    record { walked = left here known; long = i .3; ahead = i .1; inside = omega (arith, lies here known); took = took _ _ _ _ stands; few = i .0 }
+    record { walked = left here known; long = i .3; ahead = i .1; inside = omega (arith, lies here known); took = took document01 _ _ _ _ stands; few = i .0 }
 
 pub run-spec : {M : Type 1} → statement M
 run-spec =
