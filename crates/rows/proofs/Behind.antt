@@ -16,7 +16,8 @@ use Rattle.rows.specs.Row.{Num, disp, imm, imm20, Read, num, cond, stop,
 use Rattle.rows.specs.Codes.{condOf}
 use Rattle.rows.specs.Fate.{bytesOf}
 use Rattle.rows.specs.Run.{bytes, reading, readDisp, readInto, withDisp, inFull, inTwenty, andThen, past, renamed, refusal, run, runRow, begun, decodeBy}
-use Rattle.rows.proofs.Taken.{Went, reading-went, run-counted, row-counted}
+use Rattle.rows.proofs.Along.{Went, reading-went}
+use Rattle.rows.proofs.Taken.{run-counted, row-counted}
 
 -- cs begins with the first k bytes of bs
 pub record Begins (k : ℕ) (bs cs : List ℕ) : Type 0 where

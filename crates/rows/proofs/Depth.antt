@@ -7,22 +7,19 @@ use mathlib.Core.Bool.{Bool, true, false}
 use mathlib.Core.List.{List, [], _∷_}
 use native.Mathlib.Omega.{arith}
 use lib.ListN.{length, getD}
-use lib.Dec.{T, leb, ltb, eqb, leb→le}
-use borrow.Author.Tests.{ltb-true, ltb-false, eqb-true, eqb-false}
+use lib.Dec.{T, leb, eqb, leb→le}
+use borrow.Author.Tests.{eqb-true, eqb-false}
 use Rattle.record.specs.declared.Answer.{Answer}
-use Rattle.record.specs.declared.Opcode.{Opcode}
-use Rattle.record.specs.declared.Seen.{Seen}
-use Rattle.record.specs.declared.Got.{Got}
-use Rattle.record.specs.declared.Got.the-variants.{On, Short}
 use Rattle.laws.specs.Choice.{pick, both}
 use Rattle.laws.proofs.Choice.{both-left, both-right}
-use Rattle.rows.specs.Row.{InvalidOpcode, InvalidOperand, refusalNo, Read, num, cond, stop, Condition, named, unnamed, Face, Table}
+use Rattle.rows.specs.Row.{Refusal, InvalidOpcode, InvalidOperand, refusalNo, Read, num, cond, stop, Table}
 use Rattle.rows.specs.Codes.{condOf}
 use Rattle.rows.specs.Fate.{bytesOf, reach, mostTaken}
 use Rattle.rows.specs.Rows.{known, rowsOf, document01}
 use Rattle.rows.specs.All.{everyCode}
-use Rattle.rows.specs.Run.{reading, readDisp, readInto, andThen, judged, past, renamed, refusal, run, runRow, begun, decodeBy, decodeRows}
-use Rattle.rows.proofs.Taken.{Went, reading-went, counted}
+use Rattle.rows.specs.Run.{readDisp, readInto, refusal, run, runRow, begun, decodeBy, decodeRows}
+use Rattle.rows.proofs.Along.{Events, along}
+use Rattle.rows.proofs.Taken.{counted}
 use Rattle.rows.proofs.All.{every-code}
 
 module _ (most : ℕ → ℕ) where
@@ -47,37 +44,24 @@ module _ (most : ℕ → ℕ) where
   wider : (b m n : ℕ) (x : Answer) → m ≤ n → Bounded b m x → Bounded b n x
   wider b m n x h k = record { short = λ e. omega (arith, k .short e); early = k .early }
 
-  picked : (b m : ℕ) (t : Bool) (x y : Answer) → (t ≡ true → Bounded b m x) → (t ≡ false → Bounded b m y) → Bounded b m (pick t x y)
+  stopped-bounded : (b m : ℕ) (e : Refusal) (n : ℕ) → n ≤ most (refusalNo e) → Bounded b m (refusal (refusalNo e) n)
+  stopped-bounded b m InvalidOpcode n l = early-bounded b m 2 n (omega arith) l
+  stopped-bounded b m InvalidOperand n l = early-bounded b m 3 n (omega arith) l
+
+  events : (bs : List ℕ) → Events bs (λ rs n x. T (kept n rs) → Bounded (length bs) (n + reach rs) x)
+  events bs = record {
+    ends = λ n x l z t h k. record { short = λ e. absurd (omega arith); early = λ q o. absurd (q z) };
+    goes-on = λ k rs n x l h t. wider _ _ _ x (omega arith) (h t);
+    runs-out = λ k rs n l s t. short-bounded _ _ _ (omega arith);
+    names = λ rs n x l h t. wider _ _ _ x (omega arith) (h (both-right (leb (n + 1) (most 2)) (kept (n + 1) rs) t));
+    names-none = λ rs n l t. early-bounded _ _ 2 _ (omega arith) (leb→le _ _ (both-left (leb (n + 1) (most 2)) (kept (n + 1) rs) t));
+    no-condition = λ rs n e t. short-bounded _ _ _ (omega arith);
+    stops = λ e rs n l t. stopped-bounded _ _ e n (leb→le _ _ t);
+  }
+
+  picked : (b m : ℕ) (k : Bool) (x y : Answer) → (k ≡ true → Bounded b m x) → Bounded b m y → Bounded b m (pick k x y)
   picked b m true x y f g = f refl
-  picked b m false x y f g = g refl
-
-  then-bounded : (n m : ℕ) (bs : List ℕ) (s : Seen) (g : Got) (k : Seen → Answer) → Went n (length bs) s g
-      → ((t : Seen) → t .taken ≡ s .taken + n → t .taken ≤ length bs → Bounded (length bs) (t .taken + m) (k t))
-      → Bounded (length bs) (s .taken + (n + m)) (andThen bs g k)
-  then-bounded n m bs s (On t) k w f = wider _ _ _ _ (omega arith) (f t (w .0) (w .1))
-  then-bounded n m bs s Short k w f = short-bounded _ _ _ (omega arith)
-
-  judged-bounded : (b m : ℕ) (s : Seen) (c : Condition) (k : Opcode → Answer) → s .taken + 1 ≤ most 2 → ((o : Opcode) → Bounded b m (k o)) → Bounded b m (judged c s k)
-  judged-bounded b m s (named o) k h f = f o
-  judged-bounded b m s unnamed k h f = early-bounded b m 2 (s .taken + 1) (omega arith) h
-
-  run-bounded : (rs : List Read) (bs : List ℕ) (f : Face) (s : Seen) → s .taken ≤ length bs → T (kept (s .taken) rs)
-      → Bounded (length bs) (s .taken + reach rs) (run rs bs f s)
-  unfolding run
-  run-bounded [] bs f s l t = record { short = λ e. absurd (omega arith); early = λ z o. absurd (z refl) }
-  run-bounded (num k ∷ rs) bs f s l t =
-      then-bounded (bytesOf k) (reach rs) bs s (reading k bs s) (run rs bs f) (reading-went k bs s l)
-      (λ u e h. run-bounded rs bs f u h (subst (λ n. T (kept n rs)) (sym e) t))
-  run-bounded (cond ∷ rs) bs f s l t =
-      picked _ _ (ltb (s .taken) (length bs)) _ _
-      (λ c. let h : s .taken < length bs = ltb-true _ _ c in
-      let here = leb (s .taken + 1) (most 2) in
-      let later = kept (s .taken + 1) rs in
-      judged-bounded _ _ s (condOf (getD bs (s .taken) 0)) _ (leb→le _ _ (both-left here later t))
-      (λ o. wider _ _ _ _ (omega arith) (run-bounded rs bs (renamed o f) (past s) (omega arith) (both-right here later t))))
-      (λ c. let h : length bs ≤ s .taken = ltb-false _ _ c in short-bounded _ _ _ (omega arith))
-  run-bounded (stop InvalidOpcode ∷ rs) bs f s l t = early-bounded _ _ 2 _ (omega arith) (leb→le _ _ t)
-  run-bounded (stop InvalidOperand ∷ rs) bs f s l t = early-bounded _ _ 3 _ (omega arith) (leb→le _ _ t)
+  picked b m false x y f g = g
 
   module _ (t : Table) where
     -- a test of a code: its row reads at most m bytes, and refuses within the bounds
@@ -90,15 +74,15 @@ module _ (most : ℕ → ℕ) where
         let reads = t .rowAt a b .reads in
         let far = leb→le (reach reads) m (both-left (leb (reach reads) m) (kept 2 reads) w) in
         wider _ _ _ _ (omega (arith, far))
-        (run-bounded reads (a ∷ b ∷ bs) (t .rowAt a b .face) (begun (t .rowAt a b .number)) (omega arith) (both-right (leb (reach reads) m) (kept 2 reads) w))
+        (along (events (a ∷ b ∷ bs)) reads (t .rowAt a b .face) (begun (t .rowAt a b .number)) (omega arith) (both-right (leb (reach reads) m) (kept 2 reads) w))
 
     -- of every answer, if every code passes
     pub bounded : (m : ℕ) → 1 ≤ most 4 → ((a b : ℕ) → t .known a ≡ true → b < 256 → T (within m a b)) → (bs : List ℕ) → getD bs 1 0 < 256
         → Bounded (length bs) (2 + m) (decodeBy t bs)
     unfolding decodeBy
     bounded m one w [] l = short-bounded _ _ _ (omega arith)
-    bounded m one w (a ∷ []) l = picked _ _ (t .known a) _ _ (λ e. short-bounded _ _ _ (omega arith)) (λ e. early-bounded _ _ 4 _ (omega arith) one)
-    bounded m one w (a ∷ b ∷ bs) l = picked _ _ (t .known a) _ _ (λ e. row-bounded m a b bs (w a b e l)) (λ e. early-bounded _ _ 4 _ (omega arith) one)
+    bounded m one w (a ∷ []) l = picked _ _ (t .known a) _ _ (λ e. short-bounded _ _ _ (omega arith)) (early-bounded _ _ 4 _ (omega arith) one)
+    bounded m one w (a ∷ b ∷ bs) l = picked _ _ (t .known a) _ _ (λ e. row-bounded m a b bs (w a b e l)) (early-bounded _ _ 4 _ (omega arith) one)
 
 -- a table whose codes pass by the bounds of document 01
 abbrev pub Passes : Table → Type 0

@@ -1,5 +1,6 @@
 pub mod Reading
 pub mod Steps
+pub mod Along
 pub mod Taken
 pub mod Sizes
 pub mod Behind

@@ -6,41 +6,29 @@ use mathlib.Core.Path.{_≡_, refl}
 use mathlib.Core.Bool.{Bool, true, false}
 use mathlib.Core.List.{List, [], _∷_}
 use native.Mathlib.Omega.{arith}
-use lib.ListN.{length, getD}
-use lib.Dec.{ltb}
 use Rattle.record.specs.declared.Answer.{Answer}
-use Rattle.record.specs.declared.Opcode.{Opcode}
 use Rattle.laws.specs.Choice.{pick}
-use Rattle.record.specs.declared.Seen.{Seen}
-use Rattle.record.specs.declared.Got.{Got}
-use Rattle.record.specs.declared.Got.the-variants.{On, Short}
-use Rattle.rows.specs.Row.{InvalidOpcode, InvalidOperand, Read, num, cond, stop, Condition, named, unnamed, Face, Table}
-use Rattle.rows.specs.Codes.{condOf}
-use Rattle.rows.specs.Run.{reading, andThen, judged, past, renamed, refusal, run, runRow, begun, decodeBy}
+use Rattle.rows.specs.Row.{Refusal, InvalidOpcode, InvalidOperand, refusalNo, Table}
+use Rattle.rows.specs.Run.{refusal, runRow, begun, decodeBy}
+use Rattle.rows.proofs.Along.{Events, along}
 
 abbrev Listed : Answer → Type 0
 Listed x = x .refusal ≤ 3
 
-picked : (t : Bool) (x y : Answer) → Listed x → Listed y → Listed (pick t x y)
-picked true x y h g = h
-picked false x y h g = g
+own : (e : Refusal) → refusalNo e ≤ 3
+own InvalidOpcode = omega arith
+own InvalidOperand = omega arith
 
-then-listed : (bs : List ℕ) (g : Got) (k : Seen → Answer) → ((s : Seen) → Listed (k s)) → Listed (andThen bs g k)
-then-listed bs (On s) k f = f s
-then-listed bs Short k f = omega arith
-
-judged-listed : (c : Condition) (s : Seen) (k : Opcode → Answer) → ((o : Opcode) → Listed (k o)) → Listed (judged c s k)
-judged-listed (named o) s k f = f o
-judged-listed unnamed s k f = omega arith
-
-run-listed : (rs : List Read) (bs : List ℕ) (f : Face) (s : Seen) → Listed (run rs bs f s)
-unfolding run
-run-listed [] bs f s = omega arith
-run-listed (num k ∷ rs) bs f s = then-listed bs (reading k bs s) (run rs bs f) (run-listed rs bs f)
-run-listed (cond ∷ rs) bs f s =
-    picked (ltb (s .taken) (length bs)) _ _ (judged-listed (condOf (getD bs (s .taken) 0)) s _ (λ o. run-listed rs bs (renamed o f) (past s))) (omega arith)
-run-listed (stop InvalidOpcode ∷ rs) bs f s = omega arith
-run-listed (stop InvalidOperand ∷ rs) bs f s = omega arith
+events : (bs : List ℕ) → Events bs (λ rs n x. Listed x)
+events bs = record {
+  ends = λ n x l z t h. omega arith;
+  goes-on = λ k rs n x l h. h;
+  runs-out = λ k rs n l s. omega arith;
+  names = λ rs n x l h. h;
+  names-none = λ rs n l. omega arith;
+  no-condition = λ rs n e. omega arith;
+  stops = λ e rs n l. own e;
+}
 
 -- a row's refusal, or that of a first byte outside
 abbrev First : Answer → Type 0
@@ -55,7 +43,7 @@ module _ (t : Table) where
   unfolding decodeBy runRow
   first [] = (omega arith, λ e. absurd (omega arith))
   first (a ∷ []) = outside (t .known a) (refusal 1 1) (omega arith)
-  first (a ∷ b ∷ bs) = outside (t .known a) _ (run-listed (t .rowAt a b .reads) (a ∷ b ∷ bs) (t .rowAt a b .face) (begun (t .rowAt a b .number)))
+  first (a ∷ b ∷ bs) = outside (t .known a) _ (along (events (a ∷ b ∷ bs)) (t .rowAt a b .reads) (t .rowAt a b .face) (begun (t .rowAt a b .number)) (omega arith))
 
   pub at-most-four : (bs : List ℕ) → decodeBy t bs .refusal ≤ 4
   at-most-four bs = first bs .0

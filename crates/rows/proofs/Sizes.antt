@@ -11,7 +11,7 @@ use Rattle.rows.specs.Codes.{numJ, noPair, refuse, G, Bit, J}
 use Rattle.rows.specs.Fate.{bytesOf}
 use Rattle.rows.specs.Run.{reading}
 use Rattle.rows.specs.Sizes.{Form, general, bit, long, sizes, worked}
-use Rattle.rows.proofs.Taken.{Went, reading-went}
+use Rattle.rows.proofs.Along.{Went, reading-went}
 
 at-every-code : (f : Form) → listed (λ c. bytesOf (worked f c)) 16 ≡ listed (λ c. getD (sizes f) c 0) 16
 unfolding numJ
