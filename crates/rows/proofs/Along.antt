@@ -12,6 +12,7 @@ use borrow.Author.Tests.{leb-true, leb-false, ltb-true, ltb-false, eqb-true}
 use Rattle.record.specs.declared.Answer.{Answer}
 use Rattle.record.specs.declared.Opcode.{Opcode}
 use Rattle.laws.specs.Choice.{pick}
+use Rattle.laws.proofs.Choice.{pick-holds}
 use Rattle.record.specs.declared.Seen.{Seen}
 use Rattle.record.specs.declared.Got.{Got}
 use Rattle.record.specs.declared.Got.the-variants.{On, Short}
@@ -25,17 +26,18 @@ abbrev pub Went : ℕ → ℕ → Seen → Got → Type 0
 Went n b s (On t) = (t .taken ≡ s .taken + n) × (t .taken ≤ b)
 Went n b s Short = b < s .taken + n
 
-went : (n b : ℕ) (s : Seen) (t : Bool) (x y : Got) → (t ≡ true → Went n b s x) → (t ≡ false → Went n b s y) → Went n b s (pick t x y)
-went n b s true x y f g = f refl
-went n b s false x y f g = g refl
+-- so many bytes are there, or not
+there : (n : ℕ) (bs : List ℕ) (s t : Seen) → t .taken ≡ s .taken + n → Went n (length bs) s (pick (leb (s .taken + n) (length bs)) (On t) Short)
+there n bs s t e =
+    pick-holds (Went n (length bs) s) (leb (s .taken + n) (length bs)) (On t) Short (λ l. (e, omega (arith, leb-true (s .taken + n) (length bs) l)))
+    (λ l. leb-false (s .taken + n) (length bs) l)
 
 pub reading-went : (k : Num) (bs : List ℕ) (s : Seen) → s .taken ≤ length bs → Went (bytesOf k) (length bs) s (reading k bs s)
 unfolding readDisp readInto
 reading-went (disp n) bs s h =
-    went n _ s (eqb n 0) _ _ (λ e. omega (arith, eqb-true n 0 e))
-    (λ e. went n _ s (leb (s .taken + n) (length bs)) _ _ (λ t. (refl, leb-true (s .taken + n) (length bs) t)) (λ t. leb-false (s .taken + n) (length bs) t))
-reading-went (imm n) bs s h = went n _ s (leb (s .taken + n) (length bs)) _ _ (λ t. (refl, leb-true (s .taken + n) (length bs) t)) (λ t. leb-false (s .taken + n) (length bs) t)
-reading-went imm20 bs s h = went 3 _ s (leb (s .taken + 3) (length bs)) _ _ (λ t. (refl, leb-true (s .taken + 3) (length bs) t)) (λ t. leb-false (s .taken + 3) (length bs) t)
+    pick-holds (Went n (length bs) s) (eqb n 0) (On s) _ (λ e. omega (arith, eqb-true n 0 e)) (λ e. there n bs s _ refl)
+reading-went (imm n) bs s h = there n bs s _ refl
+reading-went imm20 bs s h = there 3 bs s _ refl
 
 -- P of reads, the bytes taken before them, and the answer that they come to, of all the bytes there are
 pub record Events (bs : List ℕ) (P : List Read → ℕ → Answer → Type 0) : Type 0 where

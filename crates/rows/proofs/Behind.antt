@@ -18,6 +18,7 @@ use Rattle.rows.specs.Fate.{bytesOf}
 use Rattle.rows.specs.Run.{bytes, reading, readDisp, readInto, withDisp, inFull, inTwenty, andThen, past, renamed, refusal, run, runRow, begun, decodeBy}
 use Rattle.rows.proofs.Along.{Went, reading-went}
 use Rattle.rows.proofs.Taken.{run-counted, row-counted}
+use Rattle.rows.proofs.Refusals.{outside}
 
 -- cs begins with the first k bytes of bs
 pub record Begins (k : ℕ) (bs cs : List ℕ) : Type 0 where
@@ -101,11 +102,9 @@ module _ (k : ℕ) (bs cs : List ℕ) (h : Begins k bs cs) where
 
 module _ (t : Table) where
   -- one byte was taken: the first
-  outside : (a : ℕ) (bs cs : List ℕ) → t .known a ≡ false → Begins 1 (a ∷ bs) cs → decodeBy t cs ≡ refusal 4 1
-  unfolding decodeBy
-  outside a bs [] e h = absurd (omega (arith, h .long))
-  outside a bs (c ∷ []) e h = let q : c ≡ a = h .equal 0 (omega arith) in rw (q, e)
-  outside a bs (c ∷ d ∷ cs) e h = let q : c ≡ a = h .equal 0 (omega arith) in rw (q, e)
+  begins-outside : (a : ℕ) (bs cs : List ℕ) → t .known a ≡ false → Begins 1 (a ∷ bs) cs → decodeBy t cs ≡ refusal 4 1
+  begins-outside a bs [] e h = absurd (omega (arith, h .long))
+  begins-outside a bs (c ∷ cs) e h = let q : c ≡ a = h .equal 0 (omega arith) in outside t c cs (ap (t .known) q ∙ e)
 
   -- the row was run: at least two were
   inside : (a b : ℕ) (bs cs : List ℕ) → t .known a ≡ true → (runRow (t .rowAt a b) (a ∷ b ∷ bs) .refusal ≡ 1 → ⊥)
@@ -128,9 +127,9 @@ module _ (t : Table) where
     where
       by : (b : Bool) → t .known a ≡ b → decodeBy t cs ≡ decodeBy t (a ∷ [])
       by true e = absurd ((rw e at n) refl)
-      by false e = rw e (outside a [] cs e (rw e at h))
+      by false e = rw e (begins-outside a [] cs e (rw e at h))
   behind (a ∷ b ∷ bs) cs n h = by (t .known a) refl
     where
       by : (k : Bool) → t .known a ≡ k → decodeBy t cs ≡ decodeBy t (a ∷ b ∷ bs)
       by true e = rw e (inside a b bs cs e (rw e at n) (rw e at h) (row-counted (t .rowAt a b) a b bs .grown))
-      by false e = rw e (outside a (b ∷ bs) cs e (rw e at h))
+      by false e = rw e (begins-outside a (b ∷ bs) cs e (rw e at h))

@@ -10,8 +10,8 @@ use lib.ListN.{length, getD}
 use lib.Dec.{T, leb, eqb, leb→le}
 use borrow.Author.Tests.{eqb-true, eqb-false}
 use Rattle.record.specs.declared.Answer.{Answer}
-use Rattle.laws.specs.Choice.{pick, both}
-use Rattle.laws.proofs.Choice.{both-left, both-right}
+use Rattle.laws.specs.Choice.{both}
+use Rattle.laws.proofs.Choice.{both-left, both-right, pick-holds}
 use Rattle.rows.specs.Row.{Refusal, InvalidOpcode, InvalidOperand, refusalNo, Read, num, cond, stop, Table}
 use Rattle.rows.specs.Codes.{condOf}
 use Rattle.rows.specs.Fate.{bytesOf, reach, mostTaken}
@@ -59,10 +59,6 @@ module _ (most : ℕ → ℕ) where
     stops = λ e rs n l t. stopped-bounded _ _ e n (leb→le _ _ t);
   }
 
-  picked : (b m : ℕ) (k : Bool) (x y : Answer) → (k ≡ true → Bounded b m x) → Bounded b m y → Bounded b m (pick k x y)
-  picked b m true x y f g = f refl
-  picked b m false x y f g = g
-
   module _ (t : Table) where
     -- a test of a code: its row reads at most m bytes, and refuses within the bounds
     unfoldable pub within : ℕ → ℕ → ℕ → Bool
@@ -81,8 +77,11 @@ module _ (most : ℕ → ℕ) where
         → Bounded (length bs) (2 + m) (decodeBy t bs)
     unfolding decodeBy
     bounded m one w [] l = short-bounded _ _ _ (omega arith)
-    bounded m one w (a ∷ []) l = picked _ _ (t .known a) _ _ (λ e. short-bounded _ _ _ (omega arith)) (early-bounded _ _ 4 _ (omega arith) one)
-    bounded m one w (a ∷ b ∷ bs) l = picked _ _ (t .known a) _ _ (λ e. row-bounded m a b bs (w a b e l)) (early-bounded _ _ 4 _ (omega arith) one)
+    bounded m one w (a ∷ []) l =
+        pick-holds (Bounded 1 (2 + m)) (t .known a) (refusal 1 1) (refusal 4 1) (λ e. short-bounded _ _ _ (omega arith)) (λ e. early-bounded _ _ 4 _ (omega arith) one)
+    bounded m one w (a ∷ b ∷ bs) l =
+        pick-holds (Bounded (length (a ∷ b ∷ bs)) (2 + m)) (t .known a) _ (refusal 4 1) (λ e. row-bounded m a b bs (w a b e l))
+        (λ e. early-bounded _ _ 4 _ (omega arith) one)
 
 -- a table whose codes pass by the bounds of document 01
 abbrev pub Passes : Table → Type 0

@@ -16,6 +16,7 @@ use Rattle.rows.specs.Rows.{groups, rowsOf, document01}
 use Rattle.rows.specs.All.{everyFirst}
 use Rattle.rows.specs.Run.{refusal, decodeBy}
 use Rattle.rows.proofs.All.{every-first}
+use Rattle.rows.proofs.Refusals.{outside}
 use Rattle.rows.proofs.Depth.{Bounded, within, row-bounded}
 
 -- every refusal within three bytes
@@ -34,11 +35,6 @@ module _ (t : Table) (spaced : Spaced t) where
       by true o = omega (arith, limits .short (eqb-true _ 1 o))
       by false o = omega (arith, limits .early z (eqb-false _ 1 o))
 
-  unknown : (b : ℕ) (bs : List ℕ) → t .known b ≡ false → decodeBy t (b ∷ bs) ≡ refusal 4 1
-  unfolding decodeBy
-  unknown b [] e = rw e
-  unknown b (c ∷ bs) e = rw e
-
   pub before-none : (bs : List ℕ) → 6 ≤ length bs → (decodeBy t bs .refusal ≡ 0 → ⊥) → 3 < decodeBy t bs .taken → decodeBy t (drop 1 bs) ≡ refusal 4 1
   unfolding decodeBy
   before-none [] l z g = absurd (omega arith)
@@ -48,7 +44,7 @@ module _ (t : Table) (spaced : Spaced t) where
       by : (x y : Bool) → t .known a ≡ x → t .known b ≡ y → (decodeBy t (a ∷ b ∷ bs) .refusal ≡ 0 → ⊥) → 3 < decodeBy t (a ∷ b ∷ bs) .taken
           → decodeBy t (b ∷ bs) ≡ refusal 4 1
       by false y e f = rw e (λ z g. absurd (omega arith))
-      by true false e f = λ z g. unknown b bs f
+      by true false e f = λ z g. outside t b bs f
       by true true e f = rw e (λ z g. absurd (late (row-bounded three t 4 a b bs (spaced a b e f)) l z g))
 
 -- document 01, over its twelve first bytes by themselves

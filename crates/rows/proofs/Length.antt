@@ -1,13 +1,13 @@
 -- How long an accepted instruction is, for any row table: at least two bytes, and at most two more than its rows read.
 -- Assumes nothing.
 use Prim.Native.Nat.{ℕ, _+_, _≤_, _<_}
-use mathlib.Core.Path.{_≡_, refl}
+use mathlib.Core.Path.{_≡_}
 use mathlib.Core.Bool.{Bool, true, false}
 use mathlib.Core.List.{List, [], _∷_}
 use native.Mathlib.Omega.{arith}
 use lib.ListN.{getD}
-use Rattle.record.specs.declared.Answer.{Answer}
 use Rattle.laws.specs.Choice.{pick}
+use Rattle.laws.proofs.Choice.{pick-holds}
 use Rattle.rows.specs.Row.{Table}
 use Rattle.rows.specs.Fate.{reach}
 use Rattle.rows.specs.Rows.{document01}
@@ -27,20 +27,16 @@ events bs = record {
   stops = λ e rs n l. omega arith;
 }
 
-picked : (n : ℕ) (k : Bool) (x y : Answer) → (k ≡ true → x .taken ≤ n) → y .taken ≤ n → pick k x y .taken ≤ n
-picked n true x y f g = f refl
-picked n false x y f g = g
-
 module _ (t : Table) (m : ℕ) (far : (a b : ℕ) → t .known a ≡ true → b < 256 → reach (t .rowAt a b .reads) ≤ m) where
   -- accepted or refused
   pub at-most : (bs : List ℕ) → getD bs 1 0 < 256 → decodeBy t bs .taken ≤ 2 + m
   unfolding decodeBy runRow
   at-most [] l = omega arith
-  at-most (a ∷ []) l = picked _ (t .known a) _ _ (λ e. omega arith) (omega arith)
+  at-most (a ∷ []) l = pick-holds (λ x. x .taken ≤ 2 + m) (t .known a) (refusal 1 1) (refusal 4 1) (λ e. omega arith) (λ e. omega arith)
   at-most (a ∷ b ∷ bs) l =
-      picked _ (t .known a) _ _
+      pick-holds (λ x. x .taken ≤ 2 + m) (t .known a) _ (refusal 4 1)
       (λ e. omega (arith, along (events (a ∷ b ∷ bs)) (t .rowAt a b .reads) (t .rowAt a b .face) (begun (t .rowAt a b .number)) (omega arith), far a b e l))
-      (omega arith)
+      (λ e. omega arith)
 
 -- an accepted instruction has its first two bytes
 module _ (t : Table) where

@@ -2,6 +2,7 @@ pub mod Reading
 pub mod Steps
 pub mod Along
 pub mod Taken
+pub mod Refusals
 pub mod Sizes
 pub mod Behind
 pub mod All
@@ -9,7 +10,6 @@ pub mod Counts
 pub mod Length
 pub mod Depth
 pub mod Late
-pub mod Refusals
 pub mod Agree
 pub mod Bytes
 pub mod Spans

@@ -3,11 +3,11 @@
 -- Assumes nothing.
 use Prim.Native.Nat.{ℕ, _≤_}
 use mathlib.Core.Path.{_≡_, refl}
-use mathlib.Core.Bool.{Bool, true, false}
+use mathlib.Core.Bool.{false}
 use mathlib.Core.List.{List, [], _∷_}
 use native.Mathlib.Omega.{arith}
 use Rattle.record.specs.declared.Answer.{Answer}
-use Rattle.laws.specs.Choice.{pick}
+use Rattle.laws.proofs.Choice.{pick-holds}
 use Rattle.rows.specs.Row.{Refusal, InvalidOpcode, InvalidOperand, refusalNo, Table}
 use Rattle.rows.specs.Run.{refusal, runRow, begun, decodeBy}
 use Rattle.rows.proofs.Along.{Events, along}
@@ -34,16 +34,25 @@ events bs = record {
 abbrev First : Answer → Type 0
 First x = (x .refusal ≤ 4) × (x .refusal ≡ 4 → x .taken ≡ 1)
 
-outside : (k : Bool) (x : Answer) → Listed x → First (pick k x (refusal 4 1))
-outside true x l = (omega arith, λ e. absurd (omega arith))
-outside false x l = (omega arith, λ e. refl)
+by-row : (x : Answer) → Listed x → First x
+by-row x l = (omega arith, λ e. absurd (omega arith))
 
 module _ (t : Table) where
   first : (bs : List ℕ) → First (decodeBy t bs)
   unfolding decodeBy runRow
-  first [] = (omega arith, λ e. absurd (omega arith))
-  first (a ∷ []) = outside (t .known a) (refusal 1 1) (omega arith)
-  first (a ∷ b ∷ bs) = outside (t .known a) _ (along (events (a ∷ b ∷ bs)) (t .rowAt a b .reads) (t .rowAt a b .face) (begun (t .rowAt a b .number)) (omega arith))
+  first [] = by-row (refusal 1 0) (omega arith)
+  first (a ∷ []) = pick-holds First (t .known a) (refusal 1 1) (refusal 4 1) (λ e. by-row (refusal 1 1) (omega arith)) (λ e. (omega arith, λ f. refl))
+  first (a ∷ b ∷ bs) =
+      let r = t .rowAt a b in
+      pick-holds First (t .known a) (runRow r (a ∷ b ∷ bs)) (refusal 4 1)
+      (λ e. by-row (runRow r (a ∷ b ∷ bs)) (along (events (a ∷ b ∷ bs)) (r .reads) (r .face) (begun (r .number)) (omega arith)))
+      (λ e. (omega arith, λ f. refl))
+
+  -- a first byte outside, whatever follows
+  pub outside : (a : ℕ) (bs : List ℕ) → t .known a ≡ false → decodeBy t (a ∷ bs) ≡ refusal 4 1
+  unfolding decodeBy
+  outside a [] e = rw e
+  outside a (b ∷ bs) e = rw e
 
   pub at-most-four : (bs : List ℕ) → decodeBy t bs .refusal ≤ 4
   at-most-four bs = first bs .0

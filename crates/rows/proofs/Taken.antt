@@ -2,13 +2,12 @@
 -- Assumes nothing.
 use Prim.Native.Nat.{ℕ, _≤_}
 use mathlib.Core.Path.{_≡_, refl, sym, _∙_}
-use mathlib.Core.Bool.{Bool, true, false}
 use mathlib.Core.List.{List, [], _∷_}
 use native.Mathlib.Omega.{arith}
 use lib.ListN.{length}
 use Rattle.record.specs.declared.Answer.{Answer}
 use Rattle.record.specs.declared.Seen.{Seen}
-use Rattle.laws.specs.Choice.{pick}
+use Rattle.laws.proofs.Choice.{pick-holds}
 use Rattle.rows.specs.Row.{Refusal, InvalidOpcode, InvalidOperand, refusalNo, Read, Face, Row, Table}
 use Rattle.rows.specs.Run.{refusal, run, runRow, begun, decodeBy}
 use Rattle.rows.proofs.Along.{Events, along}
@@ -49,28 +48,21 @@ pub row-counted : (r : Row) (a b : ℕ) (bs : List ℕ) → Counted 2 (length (a
 unfolding runRow
 row-counted r a b bs = run-counted (r .reads) (a ∷ b ∷ bs) (r .face) (begun (r .number)) (omega arith)
 
-picked : (a b : ℕ) (t : Bool) (x y : Answer) → Counted a b x → Counted a b y → Counted a b (pick t x y)
-picked a b true x y f g = f
-picked a b false x y f g = g
-
-some : (k : Bool) (x : Answer) → 1 ≤ x .taken → 1 ≤ pick k x (refusal 4 1) .taken
-some true x l = l
-some false x l = omega arith
-
 module _ (t : Table) where
   -- of bytes one at least is taken
   pub takes-one : (bs : List ℕ) → 1 ≤ length bs → 1 ≤ decodeBy t bs .taken
   unfolding decodeBy
   takes-one [] l = absurd (omega arith)
-  takes-one (a ∷ []) l = some (t .known a) (refusal 1 1) (omega arith)
-  takes-one (a ∷ b ∷ bs) l = some (t .known a) (runRow (t .rowAt a b) (a ∷ b ∷ bs)) (omega (arith, row-counted (t .rowAt a b) a b bs .grown))
+  takes-one (a ∷ []) l = pick-holds (λ x. 1 ≤ x .taken) (t .known a) (refusal 1 1) (refusal 4 1) (λ e. omega arith) (λ e. omega arith)
+  takes-one (a ∷ b ∷ bs) l =
+      pick-holds (λ x. 1 ≤ x .taken) (t .known a) _ (refusal 4 1) (λ e. omega (arith, row-counted (t .rowAt a b) a b bs .grown)) (λ e. omega arith)
 
   pub counted : (bs : List ℕ) → Counted 0 (length bs) (decodeBy t bs)
   unfolding decodeBy
   counted [] = refused-counted _ _ 1 _ (omega arith) (λ e. refl) (omega arith) (omega arith)
   counted (a ∷ []) =
-      picked _ _ (t .known a) _ _ (refused-counted _ _ 1 _ (omega arith) (λ q. refl) (omega arith) (omega arith))
-      (refused-counted _ _ 4 _ (omega arith) (λ q. absurd (omega arith)) (omega arith) (omega arith))
+      pick-holds (Counted 0 1) (t .known a) (refusal 1 1) (refusal 4 1) (λ e. refused-counted _ _ 1 _ (omega arith) (λ q. refl) (omega arith) (omega arith))
+      (λ e. refused-counted _ _ 4 _ (omega arith) (λ q. absurd (omega arith)) (omega arith) (omega arith))
   counted (a ∷ b ∷ bs) =
-      picked _ _ (t .known a) _ _ (wider _ 2 _ _ (omega arith) (row-counted (t .rowAt a b) a b bs))
-      (refused-counted _ _ 4 _ (omega arith) (λ q. absurd (omega arith)) (omega arith) (omega arith))
+      pick-holds (Counted 0 (length (a ∷ b ∷ bs))) (t .known a) _ (refusal 4 1) (λ e. wider _ 2 _ _ (omega arith) (row-counted (t .rowAt a b) a b bs))
+      (λ e. refused-counted _ _ 4 _ (omega arith) (λ q. absurd (omega arith)) (omega arith) (omega arith))
