@@ -2,3 +2,4 @@ pub mod Choice
 pub mod Range
 pub mod Table
 pub mod Over
+pub mod Text

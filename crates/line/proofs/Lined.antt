@@ -14,7 +14,7 @@ use Rattle.record.specs.declared.Width.{Width}
 use Rattle.record.specs.declared.Operand.{Operand}
 use Rattle.record.specs.Signed.{isSigned, numberAt}
 use Rattle.record.proofs.Arms.{every-size, every-width}
-use Rattle.line.specs.Characters.{spelled}
+use Rattle.laws.specs.Text.{spelled}
 use Rattle.line.specs.Line.{widthText, opcodeText, sizeText, shown, digitsOf, numberText, operandText, droppedText, fromWidth, lineOf, endText, refusedText}
 use Rattle.line.specs.steps.Packed.{pack, text, firstEight, afterEight, placeText, lengthText, parts, endParts, refusedParts}
 use Rattle.line.proofs.Unpacked.{wordy, wordy-hex, wordy-digits, wordy-equals, joined, Wordy, done, _also_, text-of, text-short}

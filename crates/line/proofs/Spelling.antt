@@ -15,7 +15,7 @@ use Rattle.record.specs.declared.Operand.{Operand}
 use Rattle.record.specs.declared.Operand.the-variants.{Nothing, Imm4}
 use Rattle.record.specs.Numbers.{opcodeNo, operandNo}
 use Rattle.record.specs.Same.{sameName, among}
-use Rattle.line.specs.Characters.{spelled}
+use Rattle.laws.specs.Text.{spelled}
 use Rattle.line.specs.Names.{opcodeNames, opcodeName, operandNames, operandName}
 use Rattle.line.specs.Line.{opcodeText, byteNames, wordNames, twentyNames, digitsOf, shown}
 use Rattle.line.specs.steps.Packed.{firstEight, afterEight}

@@ -1,14 +1,8 @@
--- Texts as lists of characters, each by its number, and numbers in upper-case hex digits.
+-- Numbers in upper-case hex digits, as texts.
 use Prim.Native.Nat.{ℕ, zero, suc, _+_, _/_, _%_, _^_}
-use Prim.Native.Char.{code}
-use Prim.Native.String as string
 use mathlib.Core.List.{List, [], _∷_}
 use lib.Dec.{ltb}
 use Rattle.laws.specs.Choice.{pick}
-
-abbrev pub spelled : string.String → List ℕ
-spelled string.[] = []
-spelled (string._∷_ c s) = code c ∷ spelled s
 
 -- 0 to 9, then A to F
 unfoldable pub digit : ℕ → ℕ

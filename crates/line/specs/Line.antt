@@ -16,7 +16,8 @@ use Rattle.record.specs.declared.Operand.the-variants.{«Disp16_A1», «Disp16_
 use Rattle.record.specs.declared.Operand.the-variants.{«Bit_Disp8_A1», «Bit_Disp8_SB», «Bit_Disp8_FB», «Bit_Disp16_A0», «Bit_Disp16_A1», «Bit_Disp16_SB», «Bit_Abs16»}
 use Rattle.record.specs.Same.{sameName, among}
 use Rattle.record.specs.Signed.{isSigned, numberAt}
-use Rattle.line.specs.Characters.{spelled, hex}
+use Rattle.laws.specs.Text.{spelled}
+use Rattle.line.specs.Characters.{hex}
 use Rattle.line.specs.Names.{opcodeName, operandName}
 
 -- the width, B, W or -

@@ -7,7 +7,7 @@ use lib.ListN.{getD}
 use Rattle.record.specs.declared.Opcode.{Opcode}
 use Rattle.record.specs.declared.Operand.{Operand}
 use Rattle.record.specs.Numbers.{opcodeNo, operandNo}
-use Rattle.line.specs.Characters.{spelled}
+use Rattle.laws.specs.Text.{spelled}
 
 unfoldable pub opcodeNames : List String
 opcodeNames = "NOP" ∷ "ABS" ∷ "ADC" ∷ "ADCF" ∷ "ADD" ∷ "AND" ∷ "BAND" ∷ "BCLR" ∷ "BMEQ" ∷ "BMGEU" ∷ "BMGT" ∷ "BMGTU" ∷ "BMLE" ∷ "BMLEU" ∷ "BMLTU" ∷ "BMLT" ∷ "BMNO" ∷ "BMGE" ∷ "BMN" ∷ "BMNE" ∷ "BMO" ∷ "BMPZ" ∷ "BNAND" ∷ "BNOR" ∷ "BNOT" ∷ "BNTST" ∷ "BNXOR" ∷ "BOR" ∷ "BSET" ∷ "BTST" ∷ "BTSTC" ∷ "BTSTS" ∷ "BXOR" ∷ "CMP" ∷ "DADC" ∷ "DADD" ∷ "DIV" ∷ "DIVU" ∷ "DIVX" ∷ "DSBB" ∷ "DSUB" ∷ "ENTER" ∷ "EXITD" ∷ "EXTS" ∷ "FCLR" ∷ "FSET" ∷ "GE" ∷ "INT" ∷ "JGE" ∷ "JGT" ∷ "JLE" ∷ "JLT" ∷ "JMPI" ∷ "JNO" ∷ "JO" ∷ "JSRI" ∷ "LDC" ∷ "LDCTX" ∷ "LDE" ∷ "LDIPL" ∷ "LT" ∷ "MOV" ∷ "MOVA" ∷ "MOVHH" ∷ "MOVHL" ∷ "MOVLH" ∷ "MOVLL" ∷ "MUL" ∷ "MULU" ∷ "NEG" ∷ "NO" ∷ "NOT" ∷ "OR" ∷ "POP" ∷ "POPC" ∷ "POPM" ∷ "PUSH" ∷ "PUSHA" ∷ "PUSHC" ∷ "PUSHM" ∷ "RMPA" ∷ "ROLC" ∷ "RORC" ∷ "ROT" ∷ "SBB" ∷ "SHA" ∷ "SHL" ∷ "SMOVB" ∷ "SMOVF" ∷ "SSTR" ∷ "STC" ∷ "STCTX" ∷ "STE" ∷ "SUB" ∷ "TST" ∷ "WAIT" ∷ "XCHG" ∷ "XOR" ∷ []

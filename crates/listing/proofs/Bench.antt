@@ -12,7 +12,8 @@ use Rattle.rows.specs.Run.{decodeBy, runRow, run, readDisp, readInto}
 use Rattle.sweep.specs.declared.Rule.{Rule}
 use Rattle.sweep.specs.declared.Rule.the-variants.{GoOn, Stop}
 use Rattle.sweep.specs.Walk.{stepAt, go, walk}
-use Rattle.line.specs.Characters.{spelled, digit}
+use Rattle.laws.specs.Text.{spelled}
+use Rattle.line.specs.Characters.{digit}
 use Rattle.line.specs.Names.{opcodeNames, opcodeName, operandNames, operandName}
 use Rattle.line.specs.Line.{digitsOf, numberText, shown, fromWidth, lineOf}
 use Rattle.listing.specs.Listing.{listing}

@@ -9,7 +9,7 @@ use Rattle.sweep.specs.declared.Rule.{Rule}
 use Rattle.sweep.specs.declared.step.Step.{Step}
 use Rattle.sweep.specs.declared.step.Step.the-variants.{End, Accepted, Refused}
 use Rattle.sweep.specs.Walk.{Walk, last, more, walk}
-use Rattle.line.specs.Characters.{spelled}
+use Rattle.laws.specs.Text.{spelled}
 use Rattle.line.specs.Line.{lineOf, endText, refusedText}
 
 -- the line of what stands at a place

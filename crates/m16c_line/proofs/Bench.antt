@@ -8,7 +8,8 @@ use Rattle.record.specs.Signed.{isSigned, numberOf}
 use Rattle.rows.specs.Rows.{known, rowsOf}
 use Rattle.rows.specs.Codes.{condOf}
 use Rattle.rows.specs.Run.{decodeBy, runRow, run, readDisp, readInto}
-use Rattle.line.specs.Characters.{spelled, digit}
+use Rattle.laws.specs.Text.{spelled}
+use Rattle.line.specs.Characters.{digit}
 use Rattle.line.specs.Names.{opcodeNames, opcodeName, operandNames, operandName}
 use Rattle.line.specs.Line.{digitsOf, numberText, shown, fromWidth, lineOf}
 use Rattle.line.specs.Left.{left}

@@ -5,7 +5,7 @@ use lib.Dec.{eqb}
 use lib.IntN.{ℤ, pos, negℤ}
 use Rattle.laws.specs.Choice.{pick}
 use Rattle.m16c_operand_number.specs.Told.{TellsNumber}
-use Rattle.line.specs.Characters.{spelled}
+use Rattle.laws.specs.Text.{spelled}
 use Rattle.replay.specs.Form.{Has}
 use Rattle.replay.specs.Hex.{digitAt, longAt}
 use Rattle.replay.specs.Encoding.{recordIn}

@@ -4,7 +4,7 @@ use mathlib.Core.List.{List, [], _∷_}
 use lib.ListN.{replicate}
 use Rattle.encode_rules.specs.Written.{Left, outcome}
 use Rattle.m16c_encode.specs.Numbers.{EncodesNumbers}
-use Rattle.line.specs.Characters.{spelled}
+use Rattle.laws.specs.Text.{spelled}
 use Rattle.replay.specs.Form.{Has}
 use Rattle.replay.specs.Hex.{digitAt, byteAt, wordAt, longAt, bytesAt}
 

@@ -9,7 +9,7 @@ use Rattle.sweep.specs.Sweep.{Sweeps}
 use Rattle.sweep.specs.declared.Rule.{Rule}
 use Rattle.sweep.specs.declared.Rule.the-variants.{GoOn, Stop}
 use Rattle.sweep.specs.declared.Swept.{Swept}
-use Rattle.line.specs.Characters.{spelled}
+use Rattle.laws.specs.Text.{spelled}
 use Rattle.replay.specs.Form.{Gives}
 use Rattle.replay.specs.Hex.{digitAt, byteAt, wordAt, bytesAt}
 

@@ -15,7 +15,7 @@ use Rattle.record.specs.declared.Width.the-variants as width
 use Rattle.record.specs.declared.Operand.the-variants.{Nothing}
 use Rattle.record.specs.Signed.{numberAt}
 use Rattle.record.proofs.Arms.{has}
-use Rattle.line.specs.Characters.{spelled}
+use Rattle.laws.specs.Text.{spelled}
 use Rattle.line.specs.Names.{opcodeName}
 use Rattle.line.specs.Line.{widthText, opcodeText, sizeText, numberText, operandText, droppedText, fromWidth, lineOf}
 use Rattle.tells.proofs.Split.{ended, by-length, by-mark}

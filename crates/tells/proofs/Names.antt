@@ -14,7 +14,7 @@ use Rattle.record.specs.Numbers.{opcodeNo, sizeNo, widthNo, operandNo}
 use Rattle.record.specs.Names.{opcodes, sizes, widths, operands}
 use Rattle.record.proofs.Apart.{opcodes-apart, sizes-apart, widths-apart, operands-apart}
 use Rattle.record.proofs.Arms.{every-opcode, every-size, every-width, every-operand, bit, bits-apart}
-use Rattle.line.specs.Characters.{spelled}
+use Rattle.laws.specs.Text.{spelled}
 use Rattle.line.specs.Names.{opcodeName, operandName}
 use Rattle.line.specs.Line.{widthText, sizeText, droppedText}
 use Rattle.line.specs.steps.Packed.{pack}

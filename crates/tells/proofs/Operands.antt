@@ -16,7 +16,7 @@ use Rattle.record.specs.Same.{sameName, among}
 use Rattle.record.specs.Signed.{isSigned}
 use Rattle.record.proofs.Apart.{operands-apart}
 use Rattle.record.proofs.Arms.{has}
-use Rattle.line.specs.Characters.{spelled}
+use Rattle.laws.specs.Text.{spelled}
 use Rattle.line.specs.Names.{operandName}
 use Rattle.line.specs.Line.{digitsOf, signText, equals, numberText, shown, operandText, droppedText}
 use Rattle.tells.proofs.Split.{ended, by-length, by-mark}

@@ -6,7 +6,8 @@ use lib.Dec.{eqb}
 use Rattle.laws.specs.Choice.{pick}
 use Rattle.record.specs.declared.Record.{Record}
 use Rattle.record.specs.Signed.{numberAt}
-use Rattle.line.specs.Characters.{spelled, hex}
+use Rattle.laws.specs.Text.{spelled}
+use Rattle.line.specs.Characters.{hex}
 use Rattle.line.specs.Line.{widthText, opcodeText, sizeText, shown, numberText, droppedText}
 
 abbrev pub pack : List ℕ → ℕ

@@ -1,0 +1,5 @@
+pub mod Fated
+pub mod Place
+pub mod Rule
+pub mod Laws
+pub mod Asking

@@ -1,0 +1,44 @@
+-- Where the entry of a code stands in the table, and what it tells.
+use Prim.Native.Nat.{ℕ, suc, _+_, _-_, _%_}
+use mathlib.Core.List.{List, [], _∷_}
+use lib.ListN.{getD}
+use lib.Dec.{eqb, leb, ltb}
+use Rattle.laws.specs.Choice.{pick}
+use Rattle.rows.specs.Rows.{Group, groups, known}
+use Rattle.lengths.specs.declared.Asked.{Asked}
+use Rattle.lengths.specs.declared.Asked.the-variants.{Code, Refused}
+use Rattle.lengths.specs.steps.Table.{table}
+
+-- a row for each first byte, in the order of the first bytes
+abbrev pub placeIn : List Group → ℕ → ℕ
+placeIn [] a = 0
+placeIn (g ∷ gs) a = pick (eqb a (g .byte)) 0 (suc (placeIn gs a))
+
+unfoldable pub place : ℕ → ℕ
+unfolding groups
+place = placeIn groups
+
+-- a hex digit's number, by its character
+abbrev pub valueOf : ℕ → ℕ
+valueOf c = pick (leb c 57) (c % 16) (c % 16 + 9)
+
+-- by a first byte's place and a second byte
+unfoldable pub character : ℕ → ℕ → ℕ
+unfolding table
+character p b = getD (getD table p []) b 0
+
+abbrev pub entryAt : ℕ → ℕ → ℕ
+entryAt p b = valueOf (character p b)
+
+-- a length, or 8 and a refusal
+abbrev pub refusalIn : ℕ → ℕ
+refusalIn x = pick (ltb x 8) 0 (x - 8)
+
+abbrev pub lengthIn : ℕ → ℕ
+lengthIn x = pick (ltb x 8) x 0
+
+-- what is asked of the table, if anything
+unfoldable pub askedOf : List ℕ → Asked
+askedOf [] = Refused 1
+askedOf (a ∷ []) = pick (known a) (Refused 1) (Refused 4)
+askedOf (a ∷ b ∷ bs) = pick (known a) (Code (place a) b) (Refused 4)

@@ -1,0 +1,78 @@
+// The length of an instruction from its first two bytes, by a table of all codes.
+mod table;
+
+ghost use mathlib.Core.Path.{_≡_};
+ghost use Rattle.rows.specs.Rows.{document01};
+ghost use Rattle.lengths.specs.Length.{LengthOf};
+ghost use Rattle.lengths.specs.steps.Entry.{valueOf, refusalIn, lengthIn, askedOf};
+use record::refusal;
+
+// 0 and a length, or a refusal and 0.
+pub struct Length {
+    pub refusal: u8,
+    pub length: u8,
+}
+
+// A code, by its first byte's place and its second byte; or what is refused without asking the table.
+pub enum Asked {
+    Code(u8, u8),
+    Refused(u8),
+}
+
+pub fn asked_of(bytes: &[u8]) -> Asked
+    ensures { λ r. ⌜ r ≡ askedOf (now (bytes .entry)) ⌝ }
+{
+    if bytes.len() == 0 {
+        return Asked::Refused(refusal::EXHAUSTED_INPUT);
+    }
+    let place = table::place_of(bytes[0]);
+    if place == table::FIRST_BYTES {
+        return Asked::Refused(refusal::FIRST_BYTE_OUTSIDE);
+    }
+    if bytes.len() == 1 {
+        return Asked::Refused(refusal::EXHAUSTED_INPUT);
+    }
+    Asked::Code(place, bytes[1])
+}
+
+// What an entry tells.
+pub fn told(entry: u8) -> Length
+    ensures { λ r. ⌜ (r .refusal ≡ refusalIn entry) × (r .length ≡ lengthIn entry) ⌝ }
+{
+    if entry < 8 {
+        return Length {
+            refusal: refusal::ACCEPTED,
+            length: entry,
+        };
+    }
+    Length {
+        refusal: entry - 8,
+        length: 0,
+    }
+}
+
+// A hex digit's number, by its character.
+fn value_of(c: u8) -> u8
+    ensures { λ r. ⌜ r ≡ valueOf c ⌝ }
+{
+    if c <= b'9' {
+        return c % 16;
+    }
+    c % 16 + 9
+}
+
+// The length that every accepted string has that begins with the first two bytes; or, if none is accepted, what long enough ones are
+// refused with. 4 for a first byte outside, then 1 for fewer than two bytes.
+pub fn length_of(bytes: &[u8]) -> Length
+    ensures { λ r. ⌜ LengthOf document01 (now (bytes .entry)) (r .refusal) (r .length) ⌝ }
+{
+    match asked_of(bytes) {
+        Asked::Code(place, second) => {
+            told(value_of(table::character(place as usize, second as usize)))
+        }
+        Asked::Refused(e) => Length {
+            refusal: e,
+            length: 0,
+        },
+    }
+}
