@@ -42,6 +42,10 @@ inside-known a p = by (known a) refl
     by true e = refl
     by false e = absurd (p (past a e))
 
+-- the table is asked or not
+not-both : {A : Type 0} {p b e : ℕ} → Code p b ≡ Refused e → A
+not-both q = let z : _≡_ {A = ℕ} 0 1 = cc in absurd (omega arith)
+
 -- the four ways through asked_of
 pub none : (bs : List ℕ) → length bs ≡ 0 → Refused 1 ≡ askedOf bs
 unfolding askedOf
@@ -78,22 +82,22 @@ refused-right (a ∷ []) e q = by (known a) refl
 refused-right (a ∷ b ∷ bs) e q = by (known a) refl
   where
     by : (x : Bool) → known a ≡ x → LengthOf document01 (a ∷ b ∷ bs) e 0
-    by true k = let r : Refused e ≡ Code (place a) b = rw k at q in let z : _≡_ {A = ℕ} 0 1 = cc in absurd (omega arith)
+    by true k = not-both (sym (rw k at q))
     by false k = let r : Refused e ≡ Refused 4 = rw k at q in let o : e ≡ 4 = cc in rw o (of-outside document01 a (b ∷ bs) k)
 
--- a code that is asked for is a known one
+-- a code that is asked for is a known one, so that its entry is in the table, and right
 pub record Asks (bs : List ℕ) (p b : ℕ) : Type 0 where
   pub below : p < firsts
   pub right : b < 256 → LengthOf document01 bs (refusalIn (entryAt p b)) (lengthIn (entryAt p b))
 
 pub code-right : (bs : List ℕ) (p b : ℕ) → Code p b ≡ askedOf bs → Asks bs p b
 unfolding askedOf
-code-right [] p b q = let z : _≡_ {A = ℕ} 0 1 = cc in absurd (omega arith)
+code-right [] p b q = not-both q
 code-right (a ∷ []) p b q = by (known a) refl
   where
     by : (x : Bool) → known a ≡ x → Asks (a ∷ []) p b
-    by true k = let r : Code p b ≡ Refused 1 = rw k at q in let z : _≡_ {A = ℕ} 0 1 = cc in absurd (omega arith)
-    by false k = let r : Code p b ≡ Refused 4 = rw k at q in let z : _≡_ {A = ℕ} 0 1 = cc in absurd (omega arith)
+    by true k = not-both (rw k at q)
+    by false k = not-both (rw k at q)
 code-right (a ∷ c ∷ bs) p b q = by (known a) refl
   where
     by : (x : Bool) → known a ≡ x → Asks (a ∷ c ∷ bs) p b
@@ -102,4 +106,8 @@ code-right (a ∷ c ∷ bs) p b q = by (known a) refl
         let f : p ≡ place a = cc in
         let s : b ≡ c = cc in
         rw (f, s) record { below = below a k; right = entry-right a c k }
-    by false k = let r : Code p b ≡ Refused 4 = rw k at q in let z : _≡_ {A = ℕ} 0 1 = cc in absurd (omega arith)
+    by false k = not-both (rw k at q)
+
+-- in the form that the calls give
+pub entry-told : (bs : List ℕ) (p b r n : ℕ) {x : ℕ} → Code p b ≡ askedOf bs → b < 256 → x ≡ entryAt p b → r ≡ refusalIn x → n ≡ lengthIn x → LengthOf document01 bs r n
+entry-told bs p b r n q l e f g = rw (f ∙ ap refusalIn e, g ∙ ap lengthIn e) (code-right bs p b q .right l)

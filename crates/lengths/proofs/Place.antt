@@ -1,15 +1,15 @@
 -- The place of a first byte among those of any list of groups: below their number if it is one of them, and there it stands; else their number.
 -- Assumes nothing.
-use Prim.Native.Nat.{ℕ, zero, suc, _<_}
-use mathlib.Core.Path.{_≡_, refl, sym, ap, _∙_, subst}
+use Prim.Native.Nat.{ℕ, suc, _-_, _<_}
+use mathlib.Core.Path.{_≡_, refl, sym, ap, subst}
 use mathlib.Core.Bool.{Bool, true, false}
 use mathlib.Core.List.{List, [], _∷_}
 use native.Mathlib.Omega.{arith}
 use lib.ListN.{length, getD}
-use lib.Dec.{T, eqb}
+use lib.Dec.{T, eqb, leb, ltb}
 use borrow.Author.Tests.{eqb-true}
 use Rattle.laws.specs.Choice.{pick}
-use Rattle.laws.proofs.Agree.{listed, among, Rest, agree-past}
+use Rattle.laws.proofs.Agree.{agree}
 use Rattle.rows.specs.Rows.{Group, knownIn}
 use Rattle.lengths.specs.steps.Entry.{placeIn, place}
 
@@ -17,12 +17,10 @@ abbrev pub firstsOf : List Group → List ℕ
 firstsOf [] = []
 firstsOf (g ∷ gs) = g .byte ∷ firstsOf gs
 
--- the place as a match finds it: an arm for each first byte, and one for all others
-pub told : {a k p : ℕ} → p ≡ place k → a ≡ k → p ≡ place a
-told e f = e ∙ ap place (sym f)
-
-pub told-past : {a n : ℕ} (ks : List ℕ) → listed (λ k. pick (among ks k) n (place k)) 256 ≡ listed (λ k. pick (among ks k) n n) 256 → a < 256 → Rest ks a → n ≡ place a
-told-past {a} {n} ks e l r = sym (agree-past ks n place (λ k. n) 256 e a l r)
+-- as place_of finds it
+pub place-asked : (a : ℕ) → a < 256 → place a ≡ pick (ltb a 0x74) 12 (pick (leb a 0x7E) (a - 0x74) (pick (eqb a 0xEB) 11 12))
+unfolding place
+place-asked = agree place (λ a. pick (ltb a 0x74) 12 (pick (leb a 0x7E) (a - 0x74) (pick (eqb a 0xEB) 11 12))) 256 refl
 
 module _ (a : ℕ) where
   pub record Stands (gs : List Group) (p : ℕ) : Type 0 where

@@ -1,4 +1,5 @@
 // The length of an instruction from its first two bytes, by a table of all codes.
+mod first;
 mod table;
 
 ghost use mathlib.Core.Path.{_≡_};
@@ -9,8 +10,8 @@ use record::refusal;
 
 // 0 and a length, or a refusal and 0.
 pub struct Length {
-    pub refusal: u8,
-    pub length: u8,
+    pub refusal: u32,
+    pub length: usize,
 }
 
 // A code, by its first byte's place and its second byte; or what is refused without asking the table.
@@ -25,7 +26,7 @@ pub fn asked_of(bytes: &[u8]) -> Asked
     if bytes.len() == 0 {
         return Asked::Refused(refusal::EXHAUSTED_INPUT);
     }
-    let place = table::place_of(bytes[0]);
+    let place = first::place_of(bytes[0]);
     if place == table::FIRST_BYTES {
         return Asked::Refused(refusal::FIRST_BYTE_OUTSIDE);
     }
@@ -36,13 +37,13 @@ pub fn asked_of(bytes: &[u8]) -> Asked
 }
 
 // What an entry tells.
-pub fn told(entry: u8) -> Length
+pub fn told(entry: u32) -> Length
     ensures { λ r. ⌜ (r .refusal ≡ refusalIn entry) × (r .length ≡ lengthIn entry) ⌝ }
 {
     if entry < 8 {
         return Length {
-            refusal: refusal::ACCEPTED,
-            length: entry,
+            refusal: refusal::ACCEPTED as u32,
+            length: entry as usize,
         };
     }
     Length {
@@ -68,10 +69,10 @@ pub fn length_of(bytes: &[u8]) -> Length
 {
     match asked_of(bytes) {
         Asked::Code(place, second) => {
-            told(value_of(table::character(place as usize, second as usize)))
+            told(value_of(table::character(place as usize, second as usize)) as u32)
         }
         Asked::Refused(e) => Length {
-            refusal: e,
+            refusal: e as u32,
             length: 0,
         },
     }

@@ -1,30 +1,9 @@
-// Made by scripts/tables/make-lengths from the stored answers: a line of table and match for each first byte.
+// Made by scripts/tables/make-lengths from the stored answers: a row for each first byte, in their order.
 ghost use mathlib.Core.Path.{_≡_};
 ghost use Prim.Native.Nat.{_<_};
-ghost use Rattle.lengths.specs.steps.Entry.{place, character};
+ghost use Rattle.lengths.specs.steps.Entry.{character};
 
 pub(crate) const FIRST_BYTES: u8 = 12;
-
-// Where a first byte's row is; FIRST_BYTES where it has none.
-pub(crate) fn place_of(a: u8) -> u8
-    ensures { λ r. ⌜ r ≡ place a ⌝ }
-{
-    match a {
-        0x74 => 0,
-        0x75 => 1,
-        0x76 => 2,
-        0x77 => 3,
-        0x78 => 4,
-        0x79 => 5,
-        0x7A => 6,
-        0x7B => 7,
-        0x7C => 8,
-        0x7D => 9,
-        0x7E => 10,
-        0xEB => 11,
-        _ => FIRST_BYTES,
-    }
-}
 
 // The entry of every code, as a hex digit: a length, or 8 and a refusal. Sixty-four to a line, by the second byte.
 const LENGTHS: [[u8; 256]; 12] = [
