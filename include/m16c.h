@@ -36,7 +36,7 @@ enum m16c_length {
 /* What a function returns. */
 enum m16c_refusal {
     M16C_ACCEPTED = 0, /* done */
-    M16C_EXHAUSTED_INPUT = 1, /* decoding: the image ends inside the instruction */
+    M16C_EXHAUSTED_INPUT = 1, /* decoding: the image ends inside the instruction; asked for a length: there are fewer than two bytes */
     M16C_INVALID_OPCODE = 2, /* decoding: no instruction has this code or this condition byte */
     M16C_INVALID_OPERAND = 3, /* decoding: the instruction does not take this operand */
     M16C_FIRST_BYTE_OUTSIDE = 4, /* decoding: not one of the twelve first bytes that are decoded here */
@@ -262,6 +262,11 @@ uint32_t m16c_sweep_stopping(const uint8_t *image, size_t image_length, uint16_t
 /* The listing's line of the instruction at a place of an image, without a newline, over the first bytes of a buffer. Returns 0 and leaves
  * the line's length; or decoding's refusal, or 6 where the line has no room, with length 0 and the buffer as it was. */
 uint32_t m16c_line(const uint8_t *image, size_t image_length, size_t at, uint8_t *out, size_t out_length, size_t *line_length);
+
+/* The length that every accepted instruction has that begins with the first two bytes; more bytes do not count. Returns 0 and leaves the
+ * length; or a refusal and 0: 4 for a first byte outside, then 1 for fewer than two bytes, else 2 or 3 where no bytes behind these two make
+ * an instruction. */
+uint32_t m16c_length(const uint8_t *bytes, size_t bytes_length, size_t *length);
 
 /* The number of operand k of the record of the first twelve numbers that m16c_decode fills: signed for Disp8_FB and Disp8, whose low byte
  * counts from -128 to 127, and for any other name its field as it is. Taken, length and marked do not count, nor what stands behind.

@@ -1,7 +1,7 @@
 # Sourced by scripts that use the static library; kit.sh and progress.sh are sourced before.
 # M16C_LIBRARY in the environment names an archive to take, instead of building one below target/library.
 
-c_functions="m16c_decode m16c_encode m16c_sweep m16c_sweep_stopping m16c_line m16c_operand_number"
+c_functions="m16c_decode m16c_encode m16c_sweep m16c_sweep_stopping m16c_line m16c_length m16c_operand_number"
 
 # Which archive is built: fast or small. Scripts that take --small set it.
 form=fast
@@ -18,7 +18,7 @@ take_form() {
 # The crates of an archive, an object each: docs/DECISIONS.md says why these.
 crates_of() {
     case $1 in
-    fast) echo "m16c_decode m16c_encode m16c_sweep m16c_line m16c_operand_number" ;;
+    fast) echo "m16c_decode m16c_encode m16c_sweep m16c_line m16c_length m16c_operand_number" ;;
     small) echo "m16c_small m16c_sweep" ;;
     esac
 }

@@ -61,6 +61,14 @@ extern "C" {
         line_length: *mut usize,
     ) -> u32;
 
+    /// The length that every accepted instruction has that begins with the first two bytes; more bytes do not count. Returns 0 and leaves the
+    /// length; or a refusal and 0: 4 for a first byte outside, then 1 for fewer than two bytes, else 2 or 3 where no bytes behind these two make
+    /// an instruction.
+    pub fn m16c_length(
+        bytes: *const u8, bytes_length: usize,
+        length: *mut usize,
+    ) -> u32;
+
     /// The number of operand k of the record of the first twelve numbers that m16c_decode fills: signed for Disp8_FB and Disp8, whose low byte
     /// counts from -128 to 127, and for any other name its field as it is. Taken, length and marked do not count, nor what stands behind.
     /// Returns 0 and leaves the number; or 5 and 0 where the numbers make no record or it has no operand k with a number.
@@ -109,6 +117,11 @@ pub type Line = unsafe extern "C" fn(
     at: usize,
     out: *mut u8, out_length: usize,
     line_length: *mut usize,
+) -> u32;
+
+pub type Length = unsafe extern "C" fn(
+    bytes: *const u8, bytes_length: usize,
+    length: *mut usize,
 ) -> u32;
 
 pub type OperandNumber = unsafe extern "C" fn(

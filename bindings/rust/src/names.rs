@@ -723,7 +723,7 @@ impl OperandSpec {
 #[allow(non_camel_case_types, clippy::upper_case_acronyms)]
 #[derive(Debug, Clone, Copy, PartialEq, Eq, Hash)]
 pub enum Refusal {
-    /// Decoding: the image ends inside the instruction.
+    /// Decoding: the image ends inside the instruction; asked for a length: there are fewer than two bytes.
     ExhaustedInput = 1,
     /// Decoding: no instruction has this code or this condition byte.
     InvalidOpcode = 2,

@@ -3,3 +3,4 @@ pub mod Place
 pub mod Rule
 pub mod Laws
 pub mod Asking
+pub mod Zeros

@@ -18,9 +18,12 @@ firstsOf [] = []
 firstsOf (g ∷ gs) = g .byte ∷ firstsOf gs
 
 -- as place_of finds it
-pub place-asked : (a : ℕ) → a < 256 → place a ≡ pick (ltb a 0x74) 12 (pick (leb a 0x7E) (a - 0x74) (pick (eqb a 0xEB) 11 12))
+abbrev found : ℕ → ℕ
+found a = pick (ltb a 0x74) 12 (pick (leb a 0x7E) (a - 0x74) (pick (eqb a 0xEB) 11 12))
+
+pub place-found : (a : ℕ) → a < 256 → place a ≡ found a
 unfolding place
-place-asked = agree place (λ a. pick (ltb a 0x74) 12 (pick (leb a 0x7E) (a - 0x74) (pick (eqb a 0xEB) 11 12))) 256 refl
+place-found = agree place found 256 refl
 
 module _ (a : ℕ) where
   pub record Stands (gs : List Group) (p : ℕ) : Type 0 where

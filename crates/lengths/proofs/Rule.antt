@@ -7,6 +7,7 @@ use mathlib.Core.List.{List, [], _∷_}
 use native.Mathlib.Omega.{arith}
 use lib.ListN.{length, getD}
 use lib.Dec.{T, eqb, eqb→eq}
+use Rattle.record.specs.declared.Answer.{Answer}
 use Rattle.laws.specs.Choice.{both}
 use Rattle.laws.specs.Table.{every}
 use Rattle.laws.proofs.Choice.{both-left, both-right}
@@ -36,22 +37,41 @@ all-right : T (every row-right 0 table)
 unfolding table groups right steady decodeBy runRow run readDisp readInto condOf known rowsOf
 all-right = tt
 
-module _ (a b : ℕ) (e : known a ≡ true) where
-  tells : (x : ℕ) → T (right a b x) → OfTwo document01 a b (refusalIn x) (lengthIn x)
-  unfolding right
-  tells x t =
-      let z = decodeRows (a ∷ b ∷ zeros) in
-      let r = both-right (eqb (refusalIn x) (z .refusal)) _ t in
-      let refused = eqb→eq (refusalIn x) (z .refusal) (both-left (eqb (refusalIn x) (z .refusal)) _ t) in
-      let long = eqb→eq (lengthIn x) (z .inst .length) (both-left (eqb (lengthIn x) (z .inst .length)) _ r) in
-      rw (refused, long) (by-five-zeros document01 a b e (both-right (eqb (lengthIn x) (z .inst .length)) _ r))
+-- what the test asks of an entry
+module _ (a b x : ℕ) (t : T (right a b x)) where
+  abbrev z : Answer
+  z = decodeRows (a ∷ b ∷ zeros)
 
-  pub entry-right : b < 256 → OfTwo document01 a b (refusalIn (entryAt (place a) b)) (lengthIn (entryAt (place a) b))
+  refused : refusalIn x ≡ z .refusal
+  unfolding right
+  refused = eqb→eq (refusalIn x) (z .refusal) (both-left (eqb (refusalIn x) (z .refusal)) _ t)
+
+  long : lengthIn x ≡ z .inst .length
+  unfolding right
+  long = eqb→eq (lengthIn x) (z .inst .length) (both-left (eqb (lengthIn x) (z .inst .length)) _ (both-right (eqb (refusalIn x) (z .refusal)) _ t))
+
+  steadily : T (steady document01 a b)
+  unfolding right
+  steadily = both-right (eqb (lengthIn x) (z .inst .length)) _ (both-right (eqb (refusalIn x) (z .refusal)) _ t)
+
+module _ (a b : ℕ) (e : known a ≡ true) (l : b < 256) where
+  abbrev entry : ℕ
+  entry = entryAt (place a) b
+
+  entry-passes : T (right a b entry)
   unfolding table groups known place character
-  entry-right l =
+  entry-passes =
       let s = known-stands a groups e in
       let cs = getD table (place a) [] in
       let r = at row-right [] table all-right (place a) (s .below) in
       let n = eqb→eq (length cs) 256 (both-left (eqb (length cs) 256) _ r) in
       let t = at (λ b c. right (first (place a)) b (valueOf c)) 0 cs (both-right (eqb (length cs) 256) _ r) b (omega arith) in
-      tells (entryAt (place a) b) (subst (λ f. T (right f b (entryAt (place a) b))) (s .there) t)
+      subst (λ f. T (right f b entry)) (s .there) t
+
+  -- decoding a code with five zeros behind it tells what there is to tell
+  pub zeros-tell : OfTwo document01 a b (decodeRows (a ∷ b ∷ zeros) .refusal) (decodeRows (a ∷ b ∷ zeros) .inst .length)
+  zeros-tell = by-five-zeros document01 a b e (steadily a b entry entry-passes)
+
+  -- and so does the table
+  pub entry-right : OfTwo document01 a b (refusalIn entry) (lengthIn entry)
+  entry-right = rw (refused a b entry entry-passes, long a b entry entry-passes) zeros-tell

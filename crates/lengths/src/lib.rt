@@ -3,6 +3,8 @@ mod first;
 mod table;
 
 ghost use mathlib.Core.Path.{_≡_};
+ghost use Prim.Native.Nat.{_<_};
+ghost use lib.ListN.{length};
 ghost use Rattle.rows.specs.Rows.{document01};
 ghost use Rattle.lengths.specs.Length.{LengthOf};
 ghost use Rattle.lengths.specs.steps.Entry.{valueOf, refusalIn, lengthIn, askedOf};
@@ -16,22 +18,33 @@ pub struct Length {
 
 // A code, by its first byte's place and its second byte; or what is refused without asking the table.
 pub enum Asked {
-    Code(u8, u8),
+    Code(usize, u8),
     Refused(u8),
 }
 
-pub fn asked_of(bytes: &[u8]) -> Asked
+// 4 before 1.
+fn too_few(bytes: &[u8]) -> Asked
+    requires { ⌜ length (now bytes) < 2 ⌝ }
     ensures { λ r. ⌜ r ≡ askedOf (now (bytes .entry)) ⌝ }
 {
     if bytes.len() == 0 {
         return Asked::Refused(refusal::EXHAUSTED_INPUT);
     }
+    if first::place_of(bytes[0]) == table::FIRST_BYTES {
+        return Asked::Refused(refusal::FIRST_BYTE_OUTSIDE);
+    }
+    Asked::Refused(refusal::EXHAUSTED_INPUT)
+}
+
+pub fn asked_of(bytes: &[u8]) -> Asked
+    ensures { λ r. ⌜ r ≡ askedOf (now (bytes .entry)) ⌝ }
+{
+    if bytes.len() < 2 {
+        return too_few(bytes);
+    }
     let place = first::place_of(bytes[0]);
     if place == table::FIRST_BYTES {
         return Asked::Refused(refusal::FIRST_BYTE_OUTSIDE);
-    }
-    if bytes.len() == 1 {
-        return Asked::Refused(refusal::EXHAUSTED_INPUT);
     }
     Asked::Code(place, bytes[1])
 }
@@ -69,7 +82,7 @@ pub fn length_of(bytes: &[u8]) -> Length
 {
     match asked_of(bytes) {
         Asked::Code(place, second) => {
-            told(value_of(table::character(place as usize, second as usize)) as u32)
+            told(value_of(table::character(place, second as usize)) as u32)
         }
         Asked::Refused(e) => Length {
             refusal: e as u32,

@@ -3,7 +3,7 @@ ghost use mathlib.Core.Path.{_≡_};
 ghost use Prim.Native.Nat.{_<_};
 ghost use Rattle.lengths.specs.steps.Entry.{character};
 
-pub(crate) const FIRST_BYTES: u8 = 12;
+pub(crate) const FIRST_BYTES: usize = 12;
 
 // The entry of every code, as a hex digit: a length, or 8 and a refusal. Sixty-four to a line, by the second byte.
 const LENGTHS: [[u8; 256]; 12] = [

@@ -25,7 +25,7 @@ pub extern "C" fn m16c_length(bytes: &[u8], length: &mut usize) -> u32
 {
     match lengths::asked_of(bytes) {
         Asked::Code(place, second) => {
-            let told = lengths::told(entry_at(place as usize, second as usize));
+            let told = lengths::told(entry_at(place, second as usize));
             *length = told.length;
             told.refusal
         }

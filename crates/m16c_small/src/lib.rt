@@ -1,6 +1,8 @@
 // The functions for C of the small archive: in one crate, and so in one object, where the decoder stands once. The sweep is not among
 // them: it keeps no record, and behind a decoder that makes one it takes over three times its instructions.
+ghost use Rattle.rows.specs.Rows.{document01};
 ghost use Rattle.encode_rules.specs.Written.{outcome};
+ghost use Rattle.lengths.specs.Length.{LengthOf};
 ghost use Rattle.m16c_decode.specs.Decoded.{Decodes};
 ghost use Rattle.m16c_encode.specs.Numbers.{EncodesNumbers};
 ghost use Rattle.m16c_line.specs.Lined.{Lines};
@@ -30,6 +32,20 @@ pub extern "C" fn m16c_line(image: &[u8], at: usize, out: &mut [u8], line_length
     ensures { λ r. ⌜ Lines (now (image .entry)) at (now (out .entry)) r (now («line_length» .exit)) (now (out .exit)) ⌝ }
 {
     m16c_line::m16c_line(image, at, out, line_length)
+}
+
+// By decoding, with five zeros behind the first two bytes: the table takes over ten times the bytes.
+#[no_mangle]
+pub extern "C" fn m16c_length(bytes: &[u8], length: &mut usize) -> u32
+    ensures { λ r. ⌜ LengthOf document01 (now (bytes .entry)) r (now (length .exit)) ⌝ }
+{
+    if bytes.len() < 2 {
+        *length = 0;
+        return decode::decode(bytes, 0).refusal as u32;
+    }
+    let answer = decode::decode(&[bytes[0], bytes[1], 0, 0, 0, 0, 0], 0);
+    *length = answer.inst.length;
+    answer.refusal as u32
 }
 
 #[no_mangle]

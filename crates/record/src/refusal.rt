@@ -1,7 +1,7 @@
 // What a function returns, by name. scripts/interface takes names, numbers and comments into the header and the Rust crate.
 pub const ACCEPTED: u8 = 0; // done
 
-pub const EXHAUSTED_INPUT: u8 = 1; // decoding: the image ends inside the instruction
+pub const EXHAUSTED_INPUT: u8 = 1; // decoding: the image ends inside the instruction; asked for a length: there are fewer than two bytes
 
 pub const INVALID_OPCODE: u8 = 2; // decoding: no instruction has this code or this condition byte
 

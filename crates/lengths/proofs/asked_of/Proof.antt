@@ -6,12 +6,9 @@ use lib.ListN.{getD}
 use denote.Ref.{now}
 use borrow.Author.Needs.{needs}
 use Rattle.lengths.specs.declared.Asked.the-variants.{Code}
-use Rattle.lengths.proofs.Asking.{none, outside, one, code}
+use Rattle.lengths.proofs.Asking.{outside, code}
 use Rattle.lengths.proofs.asked_of.Statement.{statement}
 use Rattle.lengths.proofs.asked_of.Tie as tie
-
-returns : tie.Need-returns
-returns c = none (now (c .before .before .args .bytes)) (c .if1 .taken)
 
 returns-2 : tie.Need-returns-2
 returns-2 c =
@@ -21,13 +18,8 @@ returns-2 c =
 returns-3 : tie.Need-returns-3
 returns-3 c =
     let place = c .before .before in
-    one (now (place .before .before .before .before .args .bytes)) (c .if3 .taken) (λ e. c .before .if2 .left (place .place-of .ensures ∙ e))
-
-returns-4 : tie.Need-returns-4
-returns-4 c =
-    let place = c .before .before .before in
     let bs = now (place .before .before .before .before .args .bytes) in
-    ap (λ p. Code p (getD bs 1 0)) (place .place-of .ensures) ∙ code bs (omega (arith, place .before .before .if1 .left, c .before .if3 .left)) (λ e. c .before .before .if2 .left (place .place-of .ensures ∙ e))
+    ap (λ p. Code p (getD bs 1 0)) (place .place-of .ensures) ∙ code bs (omega (arith, place .before .before .if1 .left)) (λ e. c .before .if2 .left (place .place-of .ensures ∙ e))
 
 pub asked-of-spec : {M : Type 1} → statement M
-asked-of-spec = tie.close (tie.spec returns (λ c. search needs) (λ c κs. search needs) returns-2 returns-3 (λ c. search needs) returns-4)
+asked-of-spec = tie.close (tie.spec (λ c κs. search needs) (λ c. c .too-few .ensures) (λ c. search needs) (λ c κs. search needs) returns-2 (λ c. search needs) returns-3)

@@ -29,5 +29,5 @@ returns-2 c =
     refused-right (now (asked .before .before .args .bytes)) (c .before .e .given .0 .0) (sym (c .before .e .given .1) ∙ asked .asked-of .ensures)
 
 pub length-of-spec : {M : Type 1} → statement M
-length-of-spec = tie.close (tie.spec (λ c κs. search needs) (λ c. search needs) (λ c. search needs) (λ c. search needs)
+length-of-spec = tie.close (tie.spec (λ c κs. search needs) (λ c. search needs) (λ c. search needs)
     character-requires (λ c κs. search needs) (λ c. search needs) (λ c κs. search needs) (λ c. search needs) (λ c. search needs) returns returns-2)

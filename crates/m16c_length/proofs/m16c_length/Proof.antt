@@ -27,5 +27,5 @@ returns-2 c =
     refused-right (now (asked .before .before .args .bytes)) (c .before .e .given .0 .0) (sym (c .before .e .given .1) ∙ asked .asked-of .ensures)
 
 pub m16c-length-spec : {M : Type 1} → statement M
-m16c-length-spec = tie.close (tie.spec (λ c κs. search needs) (λ c. search needs) (λ c. search needs) (λ c. search needs) entry-at-requires (λ c κs. search needs)
+m16c-length-spec = tie.close (tie.spec (λ c κs. search needs) (λ c. search needs) (λ c. search needs) entry-at-requires (λ c κs. search needs)
     (λ c. search needs) (λ c. search needs) returns returns-2)
