@@ -16,7 +16,7 @@ use Rattle.rows.specs.Bytes.{Bytes}
 use Rattle.rows.specs.Fate.{fate, reach}
 use Rattle.rows.specs.Run.{refusal, runRow, begun, decodeBy}
 use Rattle.rows.proofs.Along.{Events, along}
-use Rattle.lengths.specs.Length.{IsLength, IsRefusal, OfTwo}
+use Rattle.lengths.specs.Length.{OfTwo}
 
 -- no condition byte stands before a row's refusal, so that nothing else refuses first
 abbrev certain : List Read → Bool

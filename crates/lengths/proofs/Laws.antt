@@ -12,7 +12,7 @@ use Rattle.rows.specs.Run.{decodeBy}
 use Rattle.rows.proofs.Taken.{counted}
 use Rattle.rows.proofs.Length.{at-least}
 use Rattle.rows.proofs.Refusals.{outside}
-use Rattle.lengths.specs.Length.{IsLength, IsRefusal, OfTwo, LengthOf}
+use Rattle.lengths.specs.Length.{OfTwo, LengthOf}
 use Rattle.lengths.proofs.Fated.{zeros}
 
 module _ (t : Table) where

@@ -4,3 +4,4 @@ pub mod Rule
 pub mod Laws
 pub mod Asking
 pub mod Zeros
+pub mod Bounds

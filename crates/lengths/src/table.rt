@@ -1,6 +1,7 @@
 // Made by scripts/tables/make-lengths from the stored answers: a row for each first byte, in their order.
 ghost use mathlib.Core.Path.{_≡_};
 ghost use Prim.Native.Nat.{_<_};
+ghost use Rattle.lengths.specs.steps.Table.{firsts};
 ghost use Rattle.lengths.specs.steps.Entry.{character};
 
 pub(crate) const FIRST_BYTES: usize = 12;
@@ -70,7 +71,7 @@ const LENGTHS: [[u8; 256]; 12] = [
 ];
 
 pub(crate) fn character(place: usize, second: usize) -> u8
-    requires { ⌜ (place < 12) × (second < 256) ⌝ }
+    requires { ⌜ (place < firsts) × (second < 256) ⌝ }
     ensures { λ r. ⌜ r ≡ character place second ⌝ }
 {
     LENGTHS[place][second]

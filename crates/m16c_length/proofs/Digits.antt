@@ -1,7 +1,7 @@
 -- The words hold the entries of the table: an arm of the match is a word of it, and each digit of a word an entry.
 -- Assumes nothing.
 use Prim.Native.Nat.{ℕ, _+_, _*_, _/_, _%_, _<_}
-use mathlib.Core.Path.{_≡_, refl, sym, ap, _∙_}
+use mathlib.Core.Path.{_≡_, sym, ap, _∙_}
 use mathlib.Core.Bool.{Bool}
 use mathlib.Core.List.{List}
 use lib.Dec.{T, eqb, eqb→eq}
@@ -9,7 +9,7 @@ use Rattle.laws.specs.Choice.{pick}
 use Rattle.laws.specs.Range.{upto}
 use Rattle.laws.proofs.Range.{upto-at}
 use Rattle.laws.proofs.Agree.{listed, among, Rest, agree-past}
-use Rattle.lengths.specs.steps.Table.{table}
+use Rattle.lengths.specs.steps.Table.{firsts, table}
 use Rattle.lengths.specs.steps.Entry.{character, entryAt}
 use Rattle.m16c_length.specs.steps.Packed.{wordAt, digitAt}
 
@@ -23,9 +23,9 @@ told-past {a} {m} ks e l r = sym (agree-past ks 0 wordAt (λ k. 0) m e a l r)
 abbrev same : ℕ → ℕ → Bool
 same p b = eqb (entryAt p b) (digitAt (wordAt (16 * p + b / 16)) (b % 16))
 
-all-same : T (upto (λ p. upto (same p) 256) 12)
+all-same : T (upto (λ p. upto (same p) 256) firsts)
 unfolding upto table character wordAt
 all-same = tt
 
-pub each-entry : (p b : ℕ) → p < 12 → b < 256 → entryAt p b ≡ digitAt (wordAt (16 * p + b / 16)) (b % 16)
-each-entry p b h l = eqb→eq _ _ (upto-at (same p) 256 (upto-at (λ p. upto (same p) 256) 12 all-same p h) b l)
+pub each-entry : (p b : ℕ) → p < firsts → b < 256 → entryAt p b ≡ digitAt (wordAt (16 * p + b / 16)) (b % 16)
+each-entry p b h l = eqb→eq _ _ (upto-at (same p) 256 (upto-at (λ p. upto (same p) 256) firsts all-same p h) b l)

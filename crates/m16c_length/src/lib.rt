@@ -5,11 +5,12 @@ ghost use mathlib.Core.Path.{_≡_};
 ghost use Prim.Native.Nat.{_<_};
 ghost use Rattle.rows.specs.Rows.{document01};
 ghost use Rattle.lengths.specs.Length.{LengthOf};
+ghost use Rattle.lengths.specs.steps.Table.{firsts};
 ghost use Rattle.lengths.specs.steps.Entry.{entryAt};
 use lengths::Asked;
 
 fn entry_at(place: usize, second: usize) -> u32
-    requires { ⌜ (place < 12) × (second < 256) ⌝ }
+    requires { ⌜ (place < firsts) × (second < 256) ⌝ }
     ensures { λ r. ⌜ r ≡ entryAt place second ⌝ }
 {
     let word = words::word_of(16 * place + second / 16);

@@ -1,11 +1,12 @@
 // Made by scripts/tables/make-lengths from the stored answers: the table in words of sixteen entries, the first of them highest.
 ghost use mathlib.Core.Path.{_≡_};
-ghost use Prim.Native.Nat.{_<_};
+ghost use Prim.Native.Nat.{_*_, _<_};
+ghost use Rattle.lengths.specs.steps.Table.{firsts};
 ghost use Rattle.m16c_length.specs.steps.Packed.{wordAt};
 
 // By sixteen times the place of the first byte and the second byte's high digit.
 pub(crate) fn word_of(k: usize) -> u64
-    requires { ⌜ k < 192 ⌝ }
+    requires { ⌜ k < 16 * firsts ⌝ }
     ensures { λ r. ⌜ r ≡ wordAt k ⌝ }
 {
     match k {

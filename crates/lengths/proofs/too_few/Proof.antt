@@ -9,7 +9,7 @@ use Rattle.lengths.proofs.too_few.Statement.{statement}
 use Rattle.lengths.proofs.too_few.Tie as tie
 
 returns : tie.Need-returns
-returns c = none (now (c .before .before .args .bytes)) (c .if1 .taken)
+returns c = none (now (c .before .before .args .bytes)) (omega (arith, c .if1 .taken))
 
 returns-2 : tie.Need-returns-2
 returns-2 c =

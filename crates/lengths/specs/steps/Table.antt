@@ -1,8 +1,12 @@
--- Made by scripts/tables/make-lengths from the stored answers: the table, a text for each first byte, in their order.
+-- Made by scripts/tables/make-lengths from the stored answers: the table, four texts for each first byte, in their order.
 use Prim.Native.Nat.{ℕ}
 use Prim.Native.String.{String}
 use mathlib.Core.List.{List, [], _∷_, _++_}
 use Rattle.laws.specs.Text.{spelled}
+
+-- how many first bytes there are
+abbrev pub firsts : ℕ
+firsts = 12
 
 abbrev row : String → String → String → String → List ℕ
 row a b c d = spelled a ++ spelled b ++ spelled c ++ spelled d
