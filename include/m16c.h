@@ -27,7 +27,7 @@ extern "C" {
 #endif
 
 /* Made by scripts/interface: names */
-enum m16c_length {
+enum m16c_longest {
     M16C_LONGEST_IMAGE = 4096, /* the longest image that is swept, in bytes */
     M16C_LONGEST_INSTRUCTION = 7, /* the longest instruction, in bytes */
     M16C_LONGEST_LINE = 120 /* room that is enough for every line, in bytes */

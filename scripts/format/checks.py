@@ -41,6 +41,7 @@ def check(page):
     check_answers(page, model, names)
     check_marks(page)
     check_listings(model)
+    check_lengths(page, model)
     check_names(page, names)
     check_counts(page)
     check_header(page)
@@ -71,8 +72,8 @@ def check_header(page):
     for limit, form in (("IMAGE", r"more than ([\d,]+) bytes"), ("INSTRUCTION", r"An instruction has 2 to (\d) bytes"),
                         ("LINE", r"No line has more than (\d+) characters")):
         for said in re.findall(form, page.text) or [""]:
-            same(f"{HEADER}, M16C_LONGEST_{limit}", said.replace(",", ""), enums["m16c_length"]["M16C_LONGEST_" + limit])
-    same(f"{HEADER}, M16C_LONGEST_IMAGE", str(LONGEST_IMAGE), enums["m16c_length"]["M16C_LONGEST_IMAGE"])
+            same(f"{HEADER}, M16C_LONGEST_{limit}", said.replace(",", ""), enums["m16c_longest"]["M16C_LONGEST_" + limit])
+    same(f"{HEADER}, M16C_LONGEST_IMAGE", str(LONGEST_IMAGE), enums["m16c_longest"]["M16C_LONGEST_IMAGE"])
 
 
 def proved(what):
@@ -184,6 +185,20 @@ def check_listings(model):
         lines += model.listing(text[at + 3:end], text[at] == 1)
         at = end
     same_listing("crates/list_images/stdout", lines)
+
+
+def check_lengths(page, model):
+    """The stored lengths, each of three bytes that ask for it, and how many codes have which."""
+    with open("crates/list_lengths/stdin", "rb") as f:
+        text = f.read()
+    told = [model.length(text[at + 1:at + 1 + text[at]]) for at in range(0, len(text), 3)]
+    same_listing("crates/list_lengths/stdout", [f"REFUSED {refusal}" if refusal else str(length) for refusal, length in told])
+    found = [model.length(code) for code in page.codes]
+    for line in page.table("The length from two bytes", 1):
+        number = int(re.search(r"\d", line["answer"])[0])
+        answer = (number, 0) if "refusal" in line["answer"] else (0, number)
+        same(f"{page.path}, line {line.number}, by the rows", plain(line["codes"]), found.count(answer))
+    same(f"{page.path}, codes with a length or a refusal", sum(plain(line["codes"]) for line in page.table("The length from two bytes", 1)), len(found))
 
 
 def same_listing(path, lines):

@@ -62,6 +62,14 @@ class Model:
                 opcode = self.page.conditions[number]
         return Answer(0, at, Record(opcode, code.size, code.width, code.operands + ("Nothing",), wide, dispabs, first, at, code.marked, dropped))
 
+    def length(self, bs):
+        """Refusal and length by the first two bytes: those of the code's row, whatever follows."""
+        if len(bs) < 2 or bs[0] not in self.page.widths:
+            return self.decode(bs).refusal, 0
+        steps = self.page.codes[bs[0], bs[1]].steps
+        refusal = dict(steps).get(STOP, 0)
+        return refusal, 0 if refusal else 2 + sum(size for _, size in steps)
+
     # Whose number is where
 
     def field(self, operands, place):

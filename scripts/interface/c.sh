@@ -28,7 +28,7 @@ c_version() {
 }
 
 c_names() {
-    numbered_lengths | enumeration length ''
+    numbered_lengths | enumeration longest ''
     echo
     echo '/* What a function returns. */'
     numbered_refusals | parted | enumeration refusal ''

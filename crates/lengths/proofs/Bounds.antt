@@ -19,13 +19,13 @@ use Rattle.rows.proofs.Depth.{Passes, within, bounded}
 use Rattle.lengths.specs.Length.{OfTwo}
 use Rattle.lengths.proofs.Fated.{zeros}
 
-of-two-or-three : (e : ℕ) → e ≤ 4 → (e ≡ 0 → ⊥) → (e ≡ 1 → ⊥) → (e ≡ 4 → ⊥) → (e ≡ 2) ⊎ (e ≡ 3)
-of-two-or-three zero l z o f = absurd (z refl)
-of-two-or-three (suc zero) l z o f = absurd (o refl)
-of-two-or-three (suc (suc zero)) l z o f = inl refl
-of-two-or-three (suc (suc (suc zero))) l z o f = inr refl
-of-two-or-three (suc (suc (suc (suc zero)))) l z o f = absurd (f refl)
-of-two-or-three (suc (suc (suc (suc (suc e))))) l z o f = absurd (omega arith)
+left-over : (e : ℕ) → e ≤ 4 → (e ≡ 0 → ⊥) → (e ≡ 1 → ⊥) → (e ≡ 4 → ⊥) → (e ≡ 2) ⊎ (e ≡ 3)
+left-over zero l z o f = absurd (z refl)
+left-over (suc zero) l z o f = absurd (o refl)
+left-over (suc (suc zero)) l z o f = inl refl
+left-over (suc (suc (suc zero))) l z o f = inr refl
+left-over (suc (suc (suc (suc zero)))) l z o f = absurd (f refl)
+left-over (suc (suc (suc (suc (suc e))))) l z o f = absurd (omega arith)
 
 module _ (t : Table) (passes : Passes t) (a b : ℕ) (known : t .known a ≡ true) (second : b < 256) where
   abbrev x : List ℕ → Answer
@@ -35,11 +35,11 @@ module _ (t : Table) (passes : Passes t) (a b : ℕ) (known : t .known a ≡ tru
   unfolding decodeBy
   takes-two bs = rw known (row-counted (t .rowAt a b) a b bs .grown)
 
-  pub two-or-three : (e n : ℕ) → OfTwo t a b (suc e) n → (suc e ≡ 2) ⊎ (suc e ≡ 3)
-  two-or-three e n told =
+  pub refusals-told : (e n : ℕ) → OfTwo t a b (suc e) n → (suc e ≡ 2) ⊎ (suc e ≡ 3)
+  refusals-told e n told =
       let told-refusal = told .0 .long zeros (omega arith) in
       let limits = bounded mostTaken t 5 (omega arith) passes (a ∷ b ∷ zeros) second in
-      of-two-or-three (suc e) (omega (arith, at-most-four t (a ∷ b ∷ zeros))) (λ z. omega arith)
+      left-over (suc e) (omega (arith, at-most-four t (a ∷ b ∷ zeros))) (λ z. omega arith)
       (λ o. omega (arith, limits .short (told-refusal ∙ o)))
       (λ f. omega (arith, four-takes-one t (a ∷ b ∷ zeros) (told-refusal ∙ f), takes-two zeros))
 
@@ -47,8 +47,8 @@ module _ (t : Table) (passes : Passes t) (a b : ℕ) (known : t .known a ≡ tru
   unfolding within
   far a b k l = leb→le (reach (t .rowAt a b .reads)) 5 (both-left (leb (reach (t .rowAt a b .reads)) 5) _ (passes a b k l))
 
-  pub two-to-seven : (n : ℕ) → OfTwo t a b 0 n → (2 ≤ n) × (n ≤ 7)
-  two-to-seven n told =
+  pub lengths-told : (n : ℕ) → OfTwo t a b 0 n → (2 ≤ n) × (n ≤ 7)
+  lengths-told n told =
       let bs = told .some in
       let e = sym (counted t (a ∷ b ∷ bs) .accepted (told .accepted)) ∙ told .every bs (told .accepted) in
       (omega (arith, at-least t (a ∷ b ∷ bs) (told .accepted)), omega (arith, at-most t 5 far (a ∷ b ∷ bs) second))

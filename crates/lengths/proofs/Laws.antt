@@ -23,10 +23,10 @@ module _ (t : Table) where
   two-once a b (suc e) (suc f) x y = (sym (x .0 .long zeros (omega arith)) ∙ y .0 .long zeros (omega arith), x .1 ∙ sym (y .1))
 
   -- no two outcomes
-  pub once : (bs : List ℕ) (e f n m : ℕ) → LengthOf t bs e n → LengthOf t bs f m → (e ≡ f) × (n ≡ m)
-  once [] e f n m x y = (x .0 ∙ sym (y .0), x .1 ∙ sym (y .1))
-  once (a ∷ []) e f n m x y = (x .0 ∙ sym (y .0), x .1 ∙ sym (y .1))
-  once (a ∷ b ∷ bs) e f n m x y = two-once a b e f x y
+  pub length-of-once : (bs : List ℕ) (e f n m : ℕ) → LengthOf t bs e n → LengthOf t bs f m → (e ≡ f) × (n ≡ m)
+  length-of-once [] e f n m x y = (x .0 ∙ sym (y .0), x .1 ∙ sym (y .1))
+  length-of-once (a ∷ []) e f n m x y = (x .0 ∙ sym (y .0), x .1 ∙ sym (y .1))
+  length-of-once (a ∷ b ∷ bs) e f n m x y = two-once a b e f x y
 
   -- fewer than two bytes are no instruction
   too-few : {A : Type 0} (bs : List ℕ) → length bs ≤ 1 → decodeBy t bs .refusal ≡ 0 → A

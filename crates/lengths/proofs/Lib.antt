@@ -5,3 +5,4 @@ pub mod Laws
 pub mod Asking
 pub mod Zeros
 pub mod Bounds
+pub mod Examples

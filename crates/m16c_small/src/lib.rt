@@ -7,6 +7,7 @@ ghost use Rattle.m16c_decode.specs.Decoded.{Decodes};
 ghost use Rattle.m16c_encode.specs.Numbers.{EncodesNumbers};
 ghost use Rattle.m16c_line.specs.Lined.{Lines};
 ghost use Rattle.m16c_operand_number.specs.Told.{TellsNumber};
+use record::Answer;
 
 #[no_mangle]
 pub extern "C" fn m16c_decode(image: &[u8], at: usize, out: &mut [u32]) -> u32
@@ -43,7 +44,7 @@ pub extern "C" fn m16c_length(bytes: &[u8], length: &mut usize) -> u32
         *length = 0;
         return decode::decode(bytes, 0).refusal as u32;
     }
-    let answer = decode::decode(&[bytes[0], bytes[1], 0, 0, 0, 0, 0], 0);
+    let answer: Answer = decode::decode(&[bytes[0], bytes[1], 0, 0, 0, 0, 0], 0);
     *length = answer.inst.length;
     answer.refusal as u32
 }
