@@ -39,29 +39,29 @@ inside-known a p = by (known a) refl
     by true e = refl
     by false e = absurd (p (past a e))
 
--- the four ways through asked_of
+-- the four ways to ask, in the form that the tests give: p is where the first byte's row is
 pub none : (bs : List ℕ) → length bs ≡ 0 → Refused 1 ≡ askedOf bs
 unfolding askedOf
 none [] l = refl
 none (a ∷ bs) l = absurd (omega arith)
 
-pub outside : (bs : List ℕ) → 0 < length bs → place (getD bs 0 0) ≡ firsts → Refused 4 ≡ askedOf bs
+pub outside : (bs : List ℕ) {p : ℕ} → 0 < length bs → p ≡ place (getD bs 0 0) → p ≡ firsts → Refused 4 ≡ askedOf bs
 unfolding askedOf
-outside [] l p = absurd (omega arith)
-outside (a ∷ []) l p = rw (past-unknown a p) refl
-outside (a ∷ b ∷ bs) l p = rw (past-unknown a p) refl
+outside [] l e p = absurd (omega arith)
+outside (a ∷ []) l e p = rw (past-unknown a (sym e ∙ p)) refl
+outside (a ∷ b ∷ bs) l e p = rw (past-unknown a (sym e ∙ p)) refl
 
-pub one : (bs : List ℕ) → length bs ≡ 1 → (place (getD bs 0 0) ≡ firsts → ⊥) → Refused 1 ≡ askedOf bs
+pub one : (bs : List ℕ) {p : ℕ} → length bs ≡ 1 → p ≡ place (getD bs 0 0) → (p ≡ firsts → ⊥) → Refused 1 ≡ askedOf bs
 unfolding askedOf
-one [] l p = absurd (omega arith)
-one (a ∷ []) l p = rw (inside-known a p) refl
-one (a ∷ b ∷ bs) l p = absurd (omega arith)
+one [] l e p = absurd (omega arith)
+one (a ∷ []) l e p = rw (inside-known a (λ q. p (e ∙ q))) refl
+one (a ∷ b ∷ bs) l e p = absurd (omega arith)
 
-pub code : (bs : List ℕ) → 1 < length bs → (place (getD bs 0 0) ≡ firsts → ⊥) → Code (place (getD bs 0 0)) (getD bs 1 0) ≡ askedOf bs
+pub code : (bs : List ℕ) {p : ℕ} → 1 < length bs → p ≡ place (getD bs 0 0) → (p ≡ firsts → ⊥) → Code p (getD bs 1 0) ≡ askedOf bs
 unfolding askedOf
-code [] l p = absurd (omega arith)
-code (a ∷ []) l p = absurd (omega arith)
-code (a ∷ b ∷ bs) l p = rw (inside-known a p) refl
+code [] l e p = absurd (omega arith)
+code (a ∷ []) l e p = absurd (omega arith)
+code (a ∷ b ∷ bs) l e p = rw (inside-known a (λ q. p (e ∙ q)), e) refl
 
 -- what is asked for is a known code, whose entry is in the table, and right
 pub record Asks (bs : List ℕ) (p b : ℕ) : Type 0 where

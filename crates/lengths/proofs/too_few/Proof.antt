@@ -1,6 +1,5 @@
 -- `lengths::too_few` meets its contract.
 -- Assumes nothing.
-use mathlib.Core.Path.{sym, _∙_}
 use native.Mathlib.Omega.{arith}
 use denote.Ref.{now}
 use borrow.Author.Needs.{needs}
@@ -14,13 +13,13 @@ returns c = none (now (c .before .before .args .bytes)) (omega (arith, c .if1 .t
 returns-2 : tie.Need-returns-2
 returns-2 c =
     let place = c .before in
-    outside (now (place .before .before .before .before .args .bytes)) (omega (arith, place .before .before .if1 .left)) (sym (place .place-of .ensures) ∙ c .if2 .taken)
+    outside (now (place .before .before .before .before .args .bytes)) (omega (arith, place .before .before .if1 .left)) (place .place-of .ensures) (c .if2 .taken)
 
 returns-3 : tie.Need-returns-3
 returns-3 c =
     let place = c .before in
     let start = place .before .before .before .before in
-    one (now (start .args .bytes)) (omega (arith, start .pre, place .before .before .if1 .left)) (λ e. c .if2 .left (place .place-of .ensures ∙ e))
+    one (now (start .args .bytes)) (omega (arith, start .pre, place .before .before .if1 .left)) (place .place-of .ensures) (c .if2 .left)
 
 pub too-few-spec : {M : Type 1} → statement M
 too-few-spec = tie.close (tie.spec returns (λ c. search needs) (λ c κs. search needs) returns-2 returns-3)
