@@ -11,10 +11,10 @@ use std::hint::black_box;
 use std::process::ExitCode;
 use std::time::Instant;
 
-use c::{m16c_decode, m16c_encode, m16c_line, m16c_operand_number, m16c_sweep, m16c_sweep_stopping};
-use c::{Decode, Encode, Line, OperandNumber, Sweep};
+use c::{m16c_decode, m16c_encode, m16c_length, m16c_line, m16c_operand_number, m16c_sweep, m16c_sweep_stopping};
+use c::{Decode, Encode, Length, Line, OperandNumber, Sweep};
 use c::{LONGEST_IMAGE, LONGEST_INSTRUCTION, LONGEST_LINE};
-use peer_call::{at_each, nothing_decoded, nothing_encoded, rust_decode, Record, NUMBERS};
+use peer_call::{at_each, nothing_decoded, nothing_encoded, nothing_told, rust_decode, Record, NUMBERS};
 use peer_loop::rust_decode_at_each;
 use peer_sweep_call::rust_sweep as rust_sweep_call;
 use peer_sweep_loop::rust_sweep as rust_sweep_loop;
@@ -26,6 +26,9 @@ const SEED: u64 = 0x9E37_79B9_7F4A_7C15;
 
 // The operand whose number is asked for.
 const ASKED: usize = 0;
+
+// Where a record has the instruction's length.
+const LENGTH: usize = 10;
 
 // Numbers of a record that the Rust does not have.
 const FIRST: usize = 9;
@@ -132,6 +135,18 @@ const TASKS: &[Task] = &[
         ],
     },
     Task {
+        name: "length",
+        works: is_accepted,
+        takes: |_| true,
+        ways: &[
+            Way { name: "empty_loop", run: |work, out| at_each(places(work), out, |_, _| ()) },
+            Way { name: "empty_call", run: |work, out| tell_each(nothing_told, work, out) },
+            Way { name: "rattle", run: |work, out| tell_each(m16c_length, work, out) },
+            Way { name: "decode_loop", run: |work, out| at_each(places(work), &mut out.record, |_, _| ()) },
+            Way { name: "decode", run: |work, out| decode_each(m16c_decode, work, out) },
+        ],
+    },
+    Task {
         name: "operand_number",
         works: is_accepted,
         takes: |_| true,
@@ -154,7 +169,7 @@ fn places(work: &Workload) -> impl Iterator<Item = u32> + '_ {
     work.places.iter().copied()
 }
 
-// The five below are always inlined, so that what they are given is a call to a known function, not through a pointer.
+// The six below are always inlined, so that what they are given is a call to a known function, not through a pointer.
 #[inline(always)]
 fn decode_each(decode: Decode, work: &Workload, out: &mut Out) {
     let image = work.image.as_slice();
@@ -186,6 +201,16 @@ fn list_each(line: Line, work: &Workload, out: &mut Out) {
     at_each(places(work), out, |place, out| {
         let to = out.line.as_mut_slice();
         unsafe { line(image.as_ptr(), image.len(), place as usize, to.as_mut_ptr(), to.len(), &mut out.length) };
+    });
+}
+
+// The rest of the image is passed on, of which two bytes count. A place is in the image, so the slice is not checked.
+#[inline(always)]
+fn tell_each(length: Length, work: &Workload, out: &mut Out) {
+    let image = work.image.as_slice();
+    at_each(places(work), out, |place, out| {
+        let rest = unsafe { image.get_unchecked(place as usize..) };
+        unsafe { length(rest.as_ptr(), rest.len(), &mut out.length) };
     });
 }
 
@@ -355,6 +380,7 @@ fn check_same_work(work: &Workload) -> Result<(), String> {
     work.places.iter().try_for_each(|place| check_decoding(work, *place))?;
     if is_accepted(work) {
         work.places.iter().try_for_each(|place| check_line(work, *place))?;
+        work.places.iter().zip(&work.records).try_for_each(|(place, record)| check_length(work, *place, record))?;
         work.records.iter().try_for_each(|record| check_encoding(record))?;
         work.records.iter().try_for_each(|record| check_number(record))?;
     }
@@ -380,7 +406,6 @@ fn check_decoding(work: &Workload, place: u32) -> Result<(), String> {
 /// An unmarked record is encoded, in no more bytes than it had, which decode to an instruction of the same name.
 fn check_encoding(record: &Record) -> Result<(), String> {
     const OPCODE_TO_WIDTH: std::ops::RangeInclusive<usize> = 1..=3;
-    const LENGTH: usize = 10;
     let (mut bytes, mut length) = ([0; LONGEST_INSTRUCTION], 0);
     let refusal =
         unsafe { m16c_encode(record.as_ptr(), record.len(), bytes.as_mut_ptr(), bytes.len(), 0, &mut length) };
@@ -404,6 +429,17 @@ fn check_line(work: &Workload, place: u32) -> Result<(), String> {
     let begin = format!("{:04X} ", place & 0xFFFF);
     if refusal != 0 || length <= begin.len() || !line.starts_with(begin.as_bytes()) {
         return Err(format!("the line at place {place} of workload {} is {refusal}, {length}, {line:?}", work.name));
+    }
+    Ok(())
+}
+
+/// The length is that of the record.
+fn check_length(work: &Workload, place: u32, record: &Record) -> Result<(), String> {
+    let rest = &work.image[place as usize..];
+    let mut length = usize::MAX;
+    let refusal = unsafe { m16c_length(rest.as_ptr(), rest.len(), &mut length) };
+    if refusal != 0 || length != record[LENGTH] as usize {
+        return Err(format!("the length at place {place} of workload {} is {refusal}, {length}", work.name));
     }
     Ok(())
 }

@@ -52,3 +52,8 @@ pub extern "C" fn nothing_encoded(
 ) -> u32 {
     0
 }
+
+#[inline(never)]
+pub extern "C" fn nothing_told(_bytes: *const u8, _bytes_len: usize, _length: *mut usize) -> u32 {
+    0
+}

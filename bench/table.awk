@@ -4,15 +4,17 @@
 # Set `rows` to a pattern of the workloads that are shown.
 
 BEGIN {
-    split("decode encode sweep sweep_stopping line operand_number", tasks, " ")
+    split("decode encode sweep sweep_stopping line length operand_number", tasks, " ")
     # What the port stands beside, in the order shown; and the limits, for the workloads that look like use.
     beside["insns decode"] = "rust_call rust_loop empty_call"
     beside["insns encode"] = "decode empty_call"
     beside["insns sweep"] = "rust_call rust_loop stopping before"
     beside["insns sweep_stopping"] = "before"
+    beside["insns length"] = "decode empty_call"
     beside["ns decode"] = "rust_call rust_loop"
     beside["ns encode"] = "decode"
     beside["ns sweep"] = "rust_call rust_loop stopping"
+    beside["ns length"] = "decode"
     # Instructions a unit of the one sweep that there was before request A1, which stopped.
     before["image"] = 38.50
     before["codes"] = 39.12
@@ -20,10 +22,15 @@ BEGIN {
         beside["small " tasks[t]] = "fast"
         limit["small " tasks[t] " fast"] = 1.5
     }
+    # The small archive tells a length by decoding, so this stands beside its own decoding, and has no limit to the table of the fast one.
+    beside["small length"] = "fast decode"
+    delete limit["small length fast"]
     limit["insns decode rust_call"] = limit["bytes decode rust_3"] = 1
     limit["insns encode decode"] = 3
+    limit["insns length decode"] = 0.25
     limit["insns sweep rust_call"] = 1.1
     limit["insns sweep stopping"] = limit["insns sweep before"] = limit["insns sweep_stopping before"] = 1.02
+    most["length fast"] = 3000
     most["together small"] = 24000
     # Whose code is measured in bytes, in the order shown.
     split("rust_3 rust_z fast small", sized, " ")
@@ -139,9 +146,12 @@ END {
     verdict("insns sweep stopping", "  the sweep, to the stopping sweep")
     verdict("insns sweep before", "  the sweep, to the sweep before request A1")
     verdict("insns sweep_stopping before", "  the stopping sweep, to the sweep before request A1")
+    verdict("insns length decode", "  the length, to decoding the same")
     verdict("bytes decode rust_3", "  the decoder\047s size, to that of the nine Rust functions")
+    size_verdict("length fast", "  the length\047s size")
     if (has_small) {
-        for (t = 1; t in tasks; t++) verdict("small " tasks[t] " fast", "  " tasks[t] " of the small archive, to the fast one")
+        for (t = 1; t in tasks; t++)
+            if (("small " tasks[t] " fast") in limit) verdict("small " tasks[t] " fast", "  " tasks[t] " of the small archive, to the fast one")
         size_verdict("together small", "  the small archive")
     }
     exit failures > 0

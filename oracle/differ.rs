@@ -1,5 +1,6 @@
 // The differential run: the port and the Rust on the same bytes, every field that the Rust has.
-// Here are the running, the counting and the decoder's strings; encoder.rs, sweeps.rs, lines.rs, numbers.rs and replayed.rs have the rest.
+// Here are the running, the counting and the decoder's strings; encoder.rs, sweeps.rs, lines.rs, lengths.rs, numbers.rs and
+// replayed.rs have the rest.
 // usage: differ [--all]
 
 mod brute;
@@ -8,11 +9,13 @@ mod brute;
 mod c;
 mod encoder;
 mod known;
+mod lengths;
 mod lines;
 mod numbers;
 mod operands;
 mod replayed;
 mod sweeps;
+mod told;
 
 use std::env;
 use std::fmt::Write;
@@ -384,12 +387,13 @@ impl Random {
 
 // ---- Running
 
-const TASKS: [(&str, &[Kind]); 6] = [
+const TASKS: [(&str, &[Kind]); 7] = [
     ("stored answers", replayed::KINDS),
     ("decode", KINDS),
     ("encode", encoder::KINDS),
     ("sweep", sweeps::KINDS),
     ("line", lines::KINDS),
+    ("length", lengths::KINDS),
     ("operand number", numbers::KINDS),
 ];
 

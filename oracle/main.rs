@@ -1,11 +1,14 @@
-// The oracle on the command line: answers hex lines from standard input, or prints the stored list or the odd records.
+// The oracle on the command line: answers hex lines from standard input, or prints the stored list, the odd records, or the stored
+// questions about lengths or their answers.
 
 mod asked;
 mod images;
 mod known;
 mod odd;
 mod operands;
+mod questions;
 mod stored;
+mod told;
 
 use std::env;
 use std::ffi::OsString;
@@ -14,7 +17,8 @@ use std::process::ExitCode;
 
 use oracle::Answer;
 
-const USAGE: &str = "usage: oracle [--stored | --odd]  (without an option: hex lines on standard input)";
+const USAGE: &str =
+    "usage: oracle [--stored | --odd | --lengths-asked | --lengths-answered]  (without an option: hex lines on standard input)";
 
 fn main() -> ExitCode {
     match run() {
@@ -32,12 +36,14 @@ fn run() -> Result<(), String> {
         [] => answer_lines(io::stdin().lock()),
         [option] if option == "--stored" => print(&stored::list()?),
         [option] if option == "--odd" => print(&odd::list()?),
+        [option] if option == "--lengths-asked" => print(questions::asked()),
+        [option] if option == "--lengths-answered" => print(questions::answered()?),
         _ => Err(USAGE.to_string()),
     }
 }
 
-fn print(text: &str) -> Result<(), String> {
-    let written = io::stdout().write_all(text.as_bytes());
+fn print(output: impl AsRef<[u8]>) -> Result<(), String> {
+    let written = io::stdout().write_all(output.as_ref());
     written.map_err(|error| format!("standard output: {}", error))
 }
 

@@ -1,9 +1,12 @@
-// The stored answers, ../crates/replay/stdin, beside the port: oracle/README.md says what stands where in a line.
+// The stored answers, ../crates/replay/stdin and those of ../crates/list_lengths, beside the port: oracle/README.md says what stands
+// where.
 
 use crate::brute::Spelling;
 use crate::encoder::{self, WIDE_ROOM};
+use crate::lengths;
 use crate::sweeps::{self, Rule, Swept, NO_START};
 use crate::numbers as asked;
+use crate::told::Told;
 use crate::{hex, ported, Kind, Tally, FIELDS};
 use crate::{DISPABS, DROPPED, FIRST, IMM_WIDE, LENGTH, MARKED, OPCODE, OPERANDS, SIZE, TAKEN, WIDTH};
 
@@ -14,9 +17,12 @@ pub const KINDS: &[Kind] = &[
     Kind { name: "images to sweep, stopping", quick_parts: 1, all_parts: 1, run_part: stopping_sweeps },
     Kind { name: "images to sweep, going on", quick_parts: 1, all_parts: 1, run_part: sweeps_going_on },
     Kind { name: "operands to ask for", quick_parts: 1, all_parts: 1, run_part: operands },
+    Kind { name: "lengths to tell", quick_parts: 1, all_parts: 1, run_part: told_lengths },
 ];
 
 const STORED: &str = include_str!("../crates/replay/stdin");
+const LENGTHS_ASKED: &[u8] = include_bytes!("../crates/list_lengths/stdin");
+const LENGTHS_ANSWERED: &str = include_str!("../crates/list_lengths/stdout");
 
 /// The words of the stored lines that begin so, that beginning left out.
 fn lines(begins: fn(char) -> bool) -> impl Iterator<Item = Vec<&'static str>> {
@@ -136,5 +142,18 @@ fn operands(_part: usize, tally: &mut Tally) {
         let wanted = i64::from(number(distance)) * if sign == "1" { -1 } else { 1 };
         let record = record(names, imm_wide, fields);
         asked::compare(tally, &record, number(k) as usize, (refusal == "0").then_some(wanted));
+    }
+}
+
+fn told_lengths(_part: usize, tally: &mut Tally) {
+    let answers: Vec<&str> = LENGTHS_ANSWERED.lines().collect();
+    assert_eq!(LENGTHS_ASKED.len(), 3 * answers.len(), "each stored question of three bytes has an answer");
+    for (question, answer) in LENGTHS_ASKED.chunks(3).zip(answers) {
+        let (refusal, length) = match answer.strip_prefix("REFUSED ") {
+            Some(refusal) => (number(refusal), 0),
+            None => (0, number(answer)),
+        };
+        let asked = &question[1..1 + usize::from(question[0])];
+        lengths::compare(tally, asked, &Ok(Told { refusal, length: length as usize }));
     }
 }

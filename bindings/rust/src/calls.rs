@@ -41,6 +41,31 @@ pub fn encode(instruction: &Instruction, buf: &mut [u8], place: usize) -> Result
     accepted(returned).map(|()| length)
 }
 
+/// The length that every instruction has that begins with the first two bytes; more bytes do not count, and none are needed. Where no
+/// bytes behind these two make an instruction, the refusal that decoding gives if there are enough of them. A first byte that is not
+/// decoded here is refused before fewer than two bytes are.
+///
+/// ```
+/// use m16c::{length_of, Refusal};
+///
+/// assert_eq!(length_of(&[0x74, 0x0F]), Ok(7));
+/// assert_eq!(length_of(&[0x78, 0x83]), Err(Refusal::InvalidOperand));
+///
+/// // More bytes do not count: 07 is no condition, so decoding refuses this.
+/// assert_eq!(length_of(&[0x7E, 0x20, 0x05, 0x07]), Ok(4));
+///
+/// // Fewer than two bytes, and before that a first byte outside.
+/// assert_eq!(length_of(&[]), Err(Refusal::ExhaustedInput));
+/// assert_eq!(length_of(&[0x74]), Err(Refusal::ExhaustedInput));
+/// assert_eq!(length_of(&[0x04]), Err(Refusal::FirstByteOutside));
+/// ```
+pub fn length_of(bytes: &[u8]) -> Result<u8, Refusal> {
+    let mut length = 0;
+    // Sound: a slice, passed with its own length and borrowed for the call, and a number of ours.
+    let returned = unsafe { c::m16c_length(bytes.as_ptr(), bytes.len(), &mut length) };
+    accepted(returned).map(|()| length.try_into().expect(OTHER_LIBRARY))
+}
+
 /// The number that belongs to an operand, if there is one.
 pub(crate) fn operand_number(instruction: &Instruction, k: usize) -> Option<i64> {
     let numbers = instruction.numbers();

@@ -10,7 +10,7 @@ mod names;
 mod sweep;
 
 pub use c::{LONGEST_IMAGE, LONGEST_INSTRUCTION, LONGEST_LINE};
-pub use calls::{decode, encode, Refused};
+pub use calls::{decode, encode, length_of, Refused};
 pub use instruction::{Instruction, Operand};
 pub use line::{line, Line};
 pub use names::{Opcode, OperandSpec, Refusal, Size, Width};

@@ -2,7 +2,7 @@
 
 use std::ptr::{null, null_mut};
 
-use m16c::c::{m16c_decode, m16c_encode, m16c_line, m16c_operand_number, m16c_sweep, m16c_sweep_stopping};
+use m16c::c::{m16c_decode, m16c_encode, m16c_length, m16c_line, m16c_operand_number, m16c_sweep, m16c_sweep_stopping};
 use m16c::c::{Sweep, LONGEST_LINE};
 
 const EXHAUSTED_INPUT: u32 = 1;
@@ -30,6 +30,8 @@ fn no_image() {
         let listed = unsafe { m16c_line(null(), 0, at, line.as_mut_ptr(), line.len(), &mut length) };
         assert_eq!((listed, line, length), (EXHAUSTED_INPUT, [9; LONGEST_LINE], 0));
     }
+    length = 9;
+    assert_eq!((unsafe { m16c_length(null(), 0, &mut length) }, length), (EXHAUSTED_INPUT, 0));
     for sweep in SWEEPS {
         let swept = unsafe { swept(sweep, null(), 0, starts.as_mut_ptr(), starts.len()) };
         assert_eq!((swept, starts), ((0, [0; 4]), [9; 3]));

@@ -53,26 +53,20 @@ pub fn asked_of(bytes: &[u8]) -> Asked
 pub fn told(entry: u32) -> Length
     ensures { λ r. ⌜ (r .refusal ≡ refusalIn entry) × (r .length ≡ lengthIn entry) ⌝ }
 {
-    if entry < 8 {
-        return Length {
-            refusal: refusal::ACCEPTED as u32,
-            length: entry as usize,
-        };
-    }
     Length {
-        refusal: entry - 8,
-        length: 0,
+        refusal: entry / 8,
+        length: (entry % 8) as usize,
     }
 }
 
-// A hex digit's number, by its character.
+// The entry that a character of the table stands for.
 fn value_of(c: u8) -> u8
     ensures { λ r. ⌜ r ≡ valueOf c ⌝ }
 {
     if c <= b'9' {
         return c % 16;
     }
-    c % 16 + 9
+    8 * (c % 16)
 }
 
 // The length that every accepted string has that begins with the first two bytes; or, if none is accepted, what long enough ones are

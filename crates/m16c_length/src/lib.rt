@@ -13,8 +13,8 @@ fn entry_at(place: usize, second: usize) -> u32
     requires { ⌜ (place < firsts) × (second < 256) ⌝ }
     ensures { λ r. ⌜ r ≡ entryAt place second ⌝ }
 {
-    let word = words::word_of(16 * place + second / 16);
-    ((word >> (60 - 4 * (second % 16))) % 16) as u32
+    let word = words::word_of(second);
+    ((word >> (5 * place)) % 32) as u32
 }
 
 // The length that every accepted instruction has that begins with the first two bytes; more bytes do not count. Returns 0 and leaves the

@@ -1,8 +1,8 @@
 -- Where the entry of a code stands in the table, and what it tells.
-use Prim.Native.Nat.{ℕ, suc, _+_, _-_, _%_}
+use Prim.Native.Nat.{ℕ, suc, _*_, _/_, _%_}
 use mathlib.Core.List.{List, [], _∷_}
 use lib.ListN.{getD}
-use lib.Dec.{eqb, leb, ltb}
+use lib.Dec.{eqb, leb}
 use Rattle.laws.specs.Choice.{pick}
 use Rattle.rows.specs.Rows.{Group, groups, known}
 use Rattle.lengths.specs.declared.Asked.{Asked}
@@ -18,9 +18,9 @@ unfoldable pub place : ℕ → ℕ
 unfolding groups
 place = placeIn groups
 
--- a hex digit's number, by its character
+-- a length by its digit, or eight times a refusal by its letter
 abbrev pub valueOf : ℕ → ℕ
-valueOf c = pick (leb c 57) (c % 16) (c % 16 + 9)
+valueOf c = pick (leb c 57) (c % 16) (8 * (c % 16))
 
 -- by a first byte's place and a second byte
 unfoldable pub character : ℕ → ℕ → ℕ
@@ -30,12 +30,11 @@ character p b = getD (getD table p []) b 0
 abbrev pub entryAt : ℕ → ℕ → ℕ
 entryAt p b = valueOf (character p b)
 
--- a length, or 8 and a refusal
 abbrev pub refusalIn : ℕ → ℕ
-refusalIn x = pick (ltb x 8) 0 (x - 8)
+refusalIn x = x / 8
 
 abbrev pub lengthIn : ℕ → ℕ
-lengthIn x = pick (ltb x 8) x 0
+lengthIn x = x % 8
 
 -- what is asked of the table, if anything
 unfoldable pub askedOf : List ℕ → Asked

@@ -1,6 +1,6 @@
--- The words hold the entries of the table: an arm of the match is a word of it, and each digit of a word an entry.
+-- The words hold the entries of the table: an arm of the match is a word of it, and each five bits of a word an entry.
 -- Assumes nothing.
-use Prim.Native.Nat.{ℕ, _+_, _*_, _/_, _%_, _<_}
+use Prim.Native.Nat.{ℕ, _<_}
 use mathlib.Core.Path.{_≡_, sym, ap, _∙_}
 use mathlib.Core.Bool.{Bool}
 use mathlib.Core.List.{List}
@@ -11,21 +11,21 @@ use Rattle.laws.proofs.Range.{upto-at}
 use Rattle.laws.proofs.Agree.{listed, among, Rest, agree-past}
 use Rattle.lengths.specs.steps.Table.{firsts, table}
 use Rattle.lengths.specs.steps.Entry.{character, entryAt}
-use Rattle.m16c_length.specs.steps.Packed.{wordAt, digitAt}
+use Rattle.m16c_length.specs.steps.Packed.{wordAt, fieldAt}
 
 pub told : {a k w : ℕ} → w ≡ wordAt k → a ≡ k → w ≡ wordAt a
 told e f = e ∙ ap wordAt (sym f)
 
--- no key is left for the last arm
-pub told-past : {a m : ℕ} (ks : List ℕ) → listed (λ k. pick (among ks k) 0 (wordAt k)) m ≡ listed (λ k. pick (among ks k) 0 0) m → a < m → Rest ks a → 0 ≡ wordAt a
-told-past {a} {m} ks e l r = sym (agree-past ks 0 wordAt (λ k. 0) m e a l r)
+-- one number is left for the last arm
+pub told-last : {a w : ℕ} (ks : List ℕ) → listed (λ k. pick (among ks k) w (wordAt k)) 256 ≡ listed (λ k. pick (among ks k) w w) 256 → a < 256 → Rest ks a → w ≡ wordAt a
+told-last {a} {w} ks e l r = sym (agree-past ks w wordAt (λ k. w) 256 e a l r)
 
 abbrev same : ℕ → ℕ → Bool
-same p b = eqb (entryAt p b) (digitAt (wordAt (16 * p + b / 16)) (b % 16))
+same p b = eqb (entryAt p b) (fieldAt (wordAt b) p)
 
 all-same : T (upto (λ p. upto (same p) 256) firsts)
 unfolding upto table character wordAt
 all-same = tt
 
-pub each-entry : (p b : ℕ) → p < firsts → b < 256 → entryAt p b ≡ digitAt (wordAt (16 * p + b / 16)) (b % 16)
+pub each-entry : (p b : ℕ) → p < firsts → b < 256 → entryAt p b ≡ fieldAt (wordAt b) p
 each-entry p b h l = eqb→eq _ _ (upto-at (same p) 256 (upto-at (λ p. upto (same p) 256) firsts all-same p h) b l)
