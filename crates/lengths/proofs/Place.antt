@@ -1,4 +1,4 @@
--- The place of a first byte among those of any list of groups: below their number if it is one of them, and there it stands; else their number.
+-- The place of a first byte among those of any list of groups: there it stands if it is one of them, else the place is behind them all.
 -- Assumes nothing.
 use Prim.Native.Nat.{ℕ, suc, _-_, _<_}
 use mathlib.Core.Path.{_≡_, refl, sym, ap, subst}
@@ -11,6 +11,7 @@ use borrow.Author.Tests.{eqb-true}
 use Rattle.laws.specs.Choice.{pick}
 use Rattle.laws.proofs.Agree.{agree}
 use Rattle.rows.specs.Rows.{Group, knownIn}
+use Rattle.lengths.specs.steps.Table.{firsts}
 use Rattle.lengths.specs.steps.Entry.{placeIn, place}
 
 abbrev pub firstsOf : List Group → List ℕ
@@ -19,7 +20,7 @@ firstsOf (g ∷ gs) = g .byte ∷ firstsOf gs
 
 -- as place_of finds it
 abbrev found : ℕ → ℕ
-found a = pick (ltb a 0x74) 12 (pick (leb a 0x7E) (a - 0x74) (pick (eqb a 0xEB) 11 12))
+found a = pick (ltb a 0x74) firsts (pick (leb a 0x7E) (a - 0x74) (pick (eqb a 0xEB) 11 firsts))
 
 pub place-found : (a : ℕ) → a < 256 → place a ≡ found a
 unfolding place
