@@ -20,10 +20,13 @@ few [] l e = (ap (λ y. y .refusal) e, refl)
 few (a ∷ []) l e = (ap (λ y. y .refusal) e, refl)
 few (a ∷ b ∷ bs) l e = absurd (omega arith)
 
-two : (a b : ℕ) → b < 256 → OfTwo document01 a b (decodeRows (a ∷ b ∷ zeros) .refusal) (decodeRows (a ∷ b ∷ zeros) .inst .length)
+abbrev TellsTwo : ℕ → ℕ → Answer → Type 0
+TellsTwo a b x = OfTwo document01 a b (x .refusal) (x .inst .length)
+
+two : (a b : ℕ) → b < 256 → TellsTwo a b (decodeRows (a ∷ b ∷ zeros))
 two a b l = by (known a) refl
   where
-    by : (x : Bool) → known a ≡ x → OfTwo document01 a b (decodeRows (a ∷ b ∷ zeros) .refusal) (decodeRows (a ∷ b ∷ zeros) .inst .length)
+    by : (x : Bool) → known a ≡ x → TellsTwo a b (decodeRows (a ∷ b ∷ zeros))
     by true e = zeros-tell a b e l
     by false e = rw (outside document01 a (b ∷ zeros) e) (of-outside document01 a (b ∷ zeros) e)
 
@@ -31,4 +34,4 @@ pub more : (bs : List ℕ) {x : Answer} → 2 ≤ length bs → getD bs 1 0 < 25
     → LengthOf document01 bs (x .refusal) (x .inst .length)
 more [] l h e = absurd (omega arith)
 more (a ∷ []) l h e = absurd (omega arith)
-more (a ∷ b ∷ bs) l h e = subst (λ y. OfTwo document01 a b (y .refusal) (y .inst .length)) (sym e) (two a b h)
+more (a ∷ b ∷ bs) l h e = subst (TellsTwo a b) (sym e) (two a b h)
