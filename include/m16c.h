@@ -8,7 +8,14 @@
  * in upper case: Disp8_A0 is M16C_OPERAND_DISP8_A0. The number that belongs to an operand is in IMM_WIDE or in DISPABS; where two
  * operands need DISPABS, it has that of operand 0 if this is Disp8_SP, else that of operand 1, and FIRST has the other: m16c_operand_number
  * tells it, with its sign. MARKED is 1 where decoding departs from the maker's manual; no marked form is ever encoded. DROPPED is 1 where
- * a 20-bit number was read from three bytes of which the upper four bits, which are not kept, were not all zero; zeros are encoded there. */
+ * a 20-bit number was read from three bytes of which the upper four bits, which are not kept, were not all zero; zeros are encoded there.
+ *
+ * The last six numbers tell which bytes of the instruction FIRST, DISPABS and IMM_WIDE were read from. An OFFSET counts from the
+ * instruction's first byte. A WIDTH is 1, 2 or 3 bytes, of which the low one comes first; three hold 20 bits. Both are 0 where no byte
+ * behind the second was read: there is no such number, or the code has it, as in INT. These bytes may be changed in place to any number of
+ * that width: decoding gives the same record again, but for this number, and for DROPPED if there are three bytes. Encoding ignores the
+ * six. They go by numbers, not by operands: in the marked rows 74 3x and 75 3x DISPABS is the source's displacement, operand 0's, although
+ * the listing shows that number under operand 1, Disp8_SP. */
 #ifndef M16C_H
 #define M16C_H
 
@@ -60,7 +67,13 @@ enum m16c_number {
     M16C_LENGTH = 10,
     M16C_MARKED = 11,
     M16C_DROPPED = 12,
-    M16C_NUMBERS = 13
+    M16C_FIRST_OFFSET = 13,
+    M16C_FIRST_WIDTH = 14,
+    M16C_DISPABS_OFFSET = 15,
+    M16C_DISPABS_WIDTH = 16,
+    M16C_IMM_WIDE_OFFSET = 17,
+    M16C_IMM_WIDE_WIDTH = 18,
+    M16C_NUMBERS = 19
 };
 
 /* The width that decoding starts with, by the first byte. */
@@ -241,8 +254,9 @@ enum m16c_operand {
 /* End of what is made */
 
 /* Made by scripts/interface: functions */
-/* Decodes at a place of an image. Returns the refusal, 0 for none, and fills thirteen entries: taken, opcode, size, width, three
- * operands, imm_wide, dispabs, first, length, marked, dropped. With fewer than thirteen entries it returns 6 and touches none. */
+/* Decodes at a place of an image. Returns the refusal, 0 for none, and fills nineteen entries: taken, opcode, size, width, three
+ * operands, imm_wide, dispabs, first, length, marked, dropped, then offset and width of the bytes that first, dispabs and imm_wide were
+ * read from. With fewer than nineteen entries it returns 6 and touches none. */
 uint32_t m16c_decode(const uint8_t *image, size_t image_length, size_t at, uint32_t *out, size_t out_length);
 
 /* Encodes the record of the first twelve numbers that m16c_decode fills, from a place of a buffer on. Taken, length and marked do not

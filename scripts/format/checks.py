@@ -114,6 +114,8 @@ def check_answers(page, model, names):
             check_sweep(where, model, line)
         elif line[0] == "N":
             check_number(where, model, names, line)
+        elif line[0] == "P":
+            check_parts(where, model, line)
         else:
             code = check_decoding(where, page, model, names, line)
             unseen.discard(code)
@@ -136,6 +138,13 @@ def check_decoding(where, page, model, names, line):
         same(f"{where}: opcode, size, operands", (r.opcode, r.size, *r.operands), (found.opcode, found.size, *found.operands))
         same(f"{where}: imm_wide, dispabs, length", (r.imm_wide, r.dispabs, r.length), (int(wide, 16), int(dispabs, 16), int(length, 16)))
     return tuple(bs[:2]) if answer.refusal != 1 else None
+
+
+def check_parts(where, model, line):
+    count, text, refusal, *parts = line.split()
+    answer = model.decode(bytes.fromhex(text)[:int(count[1:])])
+    told = tuple((int(offset, 16), int(width, 16)) for offset, width in parts)
+    same(f"{where}: refusal, parts", (answer.refusal, answer.record.parts), (int(refusal), told))
 
 
 def record_in(names, head, wide, shorts):

@@ -5,6 +5,7 @@ from page import CONDITION, DISPLACEMENT, IMMEDIATE, STOP
 
 MASKS = {0: 0, 1: 0xFF, 2: 0xFFFF, 3: 0xFFFFF}
 LONGEST_IMAGE = 4096
+NO_PART = (0, 0)
 
 
 @dataclass(frozen=True)
@@ -19,6 +20,7 @@ class Record:
     length: int = 0
     marked: bool = False
     dropped: bool = False
+    parts: tuple = (NO_PART, NO_PART, NO_PART)  # offset and width of first, dispabs and imm_wide
 
 
 @dataclass(frozen=True)
@@ -44,6 +46,7 @@ class Model:
 
     def run(self, code, bs):
         opcode, wide, dispabs, first, dropped, at = code.opcode, code.number, 0, 0, False, 2
+        parts = Record.parts
         for step, size in code.steps:
             if step == STOP:
                 return Answer(size, at)
@@ -51,16 +54,20 @@ class Model:
                 return Answer(1, len(bs))
             whole = int.from_bytes(bs[at:at + size], "little")
             number = whole & MASKS[size]
+            part = (at, size)
             at += size
             if step == DISPLACEMENT:
                 dispabs, first = number, dispabs
+                parts = (parts[1], part, parts[2])
             elif step == IMMEDIATE:
                 wide, dropped = number, whole != number
+                parts = (parts[0], parts[1], part)
             elif step == CONDITION:
                 if number not in self.page.conditions:
                     return Answer(2, at)
                 opcode = self.page.conditions[number]
-        return Answer(0, at, Record(opcode, code.size, code.width, code.operands + ("Nothing",), wide, dispabs, first, at, code.marked, dropped))
+        operands = code.operands + ("Nothing",)
+        return Answer(0, at, Record(opcode, code.size, code.width, operands, wide, dispabs, first, at, code.marked, dropped, parts))
 
     def length(self, bs):
         """Refusal and length by the first two bytes: those of the code's row, whatever follows."""

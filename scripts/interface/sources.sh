@@ -41,7 +41,7 @@ numbered_fields() {
         gsub(/[^0-9]/, "", $1)
         sub(/^.*[.(]/, "", $3); sub(/[);].*$/, "", $3)
         print $1, $3
-    }' "$repo/crates/m16c_decode/src/lib.rt"
+    }' "$repo/crates/m16c_decode/src/lib.rt" | sort -n
 }
 
 # The opcodes that carry a size in the Rust. The oracle's driver lists them, and compiles only if the given Rust agrees.

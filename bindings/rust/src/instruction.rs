@@ -1,6 +1,6 @@
 use crate::calls::operand_number;
 use crate::names::index;
-use crate::{Opcode, OperandSpec, Size, Width};
+use crate::{Opcode, OperandSpec, Parts, Size, Width};
 
 /// A record as the library has it.
 pub(crate) type Numbers = [u32; index::NUMBERS];
@@ -34,6 +34,8 @@ pub struct Instruction {
     /// assert_eq!(patch, [0x74, 0x00, 0x61, 0xFE, 0x06]);
     /// ```
     pub dropped: bool,
+    /// What [`Instruction::parts`] tells.
+    pub parts: Parts,
 }
 
 /// An operand with the number that belongs to it, if its form has one.
@@ -57,6 +59,7 @@ impl Default for Instruction {
             length: 0,
             marked: false,
             dropped: false,
+            parts: Parts::default(),
         }
     }
 }
@@ -66,6 +69,30 @@ impl Instruction {
     pub fn operand(&self, idx: u8) -> Option<Operand> {
         let spec = *self.operands.get(usize::from(idx))?;
         (spec != OperandSpec::Nothing).then(|| Operand { spec, number: operand_number(self, idx.into()) })
+    }
+
+    /// Where the numbers stand in the bytes. Other bytes over a part make another number in its field, and change nothing else of the
+    /// instruction but `dropped`: so a constant is changed in place, however many bytes encoding would take.
+    ///
+    /// Parts go by fields, not by operands: in the marked rows 74 3x and 75 3x `dispabs` was read as the displacement of the first operand,
+    /// and the line shows it under the second, `Disp8_SP`.
+    ///
+    /// ```
+    /// // Behind an INT a MOV.W #2, 34H[A0], with a displacement longer than it needs to be: encoding would shorten it.
+    /// let mut image = [0xEB, 0xC5, 0x75, 0xCC, 0x34, 0x00, 0x02, 0x00];
+    /// assert_eq!(m16c::line(&image, 2)?.as_str(), "0002 6 W MOV.W Imm16=0002 Disp16_A0=0034");
+    ///
+    /// let part = m16c::decode(&image, 2)?.parts().imm_wide.expect("an immediate behind the code");
+    /// assert_eq!((part.offset, part.width), (4, 2));
+    /// image[2..][part.range()].copy_from_slice(&1500_u16.to_le_bytes());
+    /// assert_eq!(m16c::line(&image, 2)?.as_str(), "0002 6 W MOV.W Imm16=05DC Disp16_A0=0034");
+    ///
+    /// // The number of an INT is in its code.
+    /// assert_eq!(m16c::decode(&image, 0)?.parts(), m16c::Parts::default());
+    /// # Ok::<(), Box<dyn std::error::Error>>(())
+    /// ```
+    pub fn parts(&self) -> Parts {
+        self.parts
     }
 
     /// None if the numbers are those of no instruction.
@@ -85,6 +112,7 @@ impl Instruction {
             length: numbers[index::LENGTH].try_into().ok()?,
             marked: numbers[index::MARKED] != 0,
             dropped: numbers[index::DROPPED] != 0,
+            parts: Parts::from_numbers(numbers)?,
         })
     }
 

@@ -7,6 +7,7 @@ mod calls;
 mod instruction;
 mod line;
 mod names;
+mod parts;
 mod sweep;
 
 pub use c::{LONGEST_IMAGE, LONGEST_INSTRUCTION, LONGEST_LINE};
@@ -14,4 +15,5 @@ pub use calls::{decode, encode, length_of, Refused};
 pub use instruction::{Instruction, Operand};
 pub use line::{line, Line};
 pub use names::{Opcode, OperandSpec, Refusal, Size, Width};
+pub use parts::{Part, Parts};
 pub use sweep::{sweep, sweep_stopping, Instructions, Placed, Sweep};

@@ -788,5 +788,11 @@ pub(crate) mod index {
     pub const LENGTH: usize = 10;
     pub const MARKED: usize = 11;
     pub const DROPPED: usize = 12;
-    pub const NUMBERS: usize = 13;
+    pub const FIRST_OFFSET: usize = 13;
+    pub const FIRST_WIDTH: usize = 14;
+    pub const DISPABS_OFFSET: usize = 15;
+    pub const DISPABS_WIDTH: usize = 16;
+    pub const IMM_WIDE_OFFSET: usize = 17;
+    pub const IMM_WIDE_WIDTH: usize = 18;
+    pub const NUMBERS: usize = 19;
 }

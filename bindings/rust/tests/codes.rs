@@ -1,6 +1,6 @@
-//! Every code: names and numbers by the line that the library writes, and encoding both ways.
+//! Every code: names and numbers by the line that the library writes, encoding both ways, and where the numbers stand.
 
-use m16c::{decode, encode, line, Instruction, Opcode, OperandSpec, Refusal, Size, Width};
+use m16c::{decode, encode, line, Instruction, Opcode, OperandSpec, Part, Refusal, Size, Width};
 
 const FIRST_BYTES: [u8; 12] = [0x74, 0x75, 0x76, 0x77, 0x78, 0x79, 0x7A, 0x7B, 0x7C, 0x7D, 0x7E, 0xEB];
 // Bytes behind a code. Where 7E wants a condition each has one; all bytes of one differ, so that none passes for another.
@@ -102,6 +102,95 @@ fn based(spec: OperandSpec, number: i64) -> (OperandSpec, i64) {
         Disp8_A1 => (Disp16_A1, number),
         Disp8_SB => (Disp16_SB, number),
         other => (other, number),
+    }
+}
+
+// Bytes to write over a part, as many as it has: about where numbers change their size or sign, and bits are dropped.
+const PATCHES: [[u8; 3]; 6] =
+    [[0x00; 3], [0xFF; 3], [0x7F, 0x80, 0x0F], [0x80, 0x7F, 0x10], [0x12, 0x34, 0xF5], [0xFE, 0x00, 0x00]];
+
+/// The fields that parts are of.
+#[derive(Debug, Clone, Copy)]
+enum Field {
+    First,
+    Dispabs,
+    ImmWide,
+}
+
+const FIELDS: [Field; 3] = [Field::First, Field::Dispabs, Field::ImmWide];
+
+fn part(instruction: &Instruction, field: Field) -> Option<Part> {
+    match field {
+        Field::First => instruction.parts().first,
+        Field::Dispabs => instruction.parts().dispabs,
+        Field::ImmWide => instruction.parts().imm_wide,
+    }
+}
+
+fn number(instruction: &Instruction, field: Field) -> u32 {
+    match field {
+        Field::First => instruction.first.into(),
+        Field::Dispabs => instruction.dispabs.into(),
+        Field::ImmWide => instruction.imm_wide,
+    }
+}
+
+fn with_number(instruction: Instruction, field: Field, number: u32) -> Instruction {
+    let short = || u16::try_from(number).expect("a displacement has 16 bits");
+    match field {
+        Field::First => Instruction { first: short(), ..instruction },
+        Field::Dispabs => Instruction { dispabs: short(), ..instruction },
+        Field::ImmWide => Instruction { imm_wide: number, ..instruction },
+    }
+}
+
+/// The number of a part's bytes, low byte first; of three bytes 20 bits.
+fn read(bytes: &[u8]) -> u32 {
+    bytes.iter().rev().fold(0, |above, byte| above << 8 | u32::from(*byte)) & 0xF_FFFF
+}
+
+#[test]
+fn each_byte_behind_the_code_is_of_one_part() {
+    for (bytes, instruction) in instructions() {
+        let mut parts_of_byte = [0; 7];
+        for part in FIELDS.iter().filter_map(|field| part(&instruction, *field)) {
+            assert!((1..=3).contains(&part.width), "{bytes:X?}: {part:?}");
+            part.range().for_each(|place| parts_of_byte[place] += 1);
+        }
+        let has_condition = bytes[0] == 0x7E && bytes[1] >> 4 == 2;
+        let end = usize::from(instruction.length) - usize::from(has_condition);
+        let expected: [u8; 7] = std::array::from_fn(|place| (2..end).contains(&place).into());
+        assert_eq!(parts_of_byte, expected, "{bytes:X?}");
+    }
+}
+
+#[test]
+fn parts_hold_the_numbers_of_their_fields() {
+    for (bytes, instruction) in instructions() {
+        for field in FIELDS {
+            let number = number(&instruction, field);
+            match part(&instruction, field) {
+                Some(part) => assert_eq!(read(&bytes[part.range()]), number, "{field:?} of {bytes:X?}"),
+                // A number that is in the code leaves no bytes behind it.
+                None => assert!(number == 0 || instruction.length == 2, "{field:?} of {bytes:X?}"),
+            }
+        }
+    }
+}
+
+#[test]
+fn other_bytes_over_a_part_change_its_field_alone() {
+    for (bytes, instruction) in instructions() {
+        let parts = FIELDS.iter().filter_map(|field| Some((*field, part(&instruction, *field)?)));
+        for ((field, part), patch) in parts.flat_map(|found| PATCHES.map(|patch| (found, patch))) {
+            let written = &patch[..usize::from(part.width)];
+            let mut patched = bytes;
+            patched[part.range()].copy_from_slice(written);
+            // Only three bytes have bits to drop.
+            let dropped = if let [_, _, last] = written { *last >= 0x10 } else { instruction.dropped };
+            let expected = Instruction { dropped, ..with_number(instruction, field, read(written)) };
+            assert_eq!(decode(&patched, 0), Ok(expected), "{field:?} of {bytes:X?}: {patched:X?}");
+        }
     }
 }
 

@@ -1,7 +1,7 @@
 //! The lines that document 01 gives, and a case of every refusal.
 
 use m16c::{decode, encode, line, sweep, sweep_stopping};
-use m16c::{Instruction, Opcode, OperandSpec, Refusal, Refused, Size, Width};
+use m16c::{Instruction, Opcode, OperandSpec, Part, Parts, Refusal, Refused, Size, Width};
 
 fn accepted(bytes: &[u8]) -> Instruction {
     decode(bytes, 0).unwrap_or_else(|refused| panic!("{bytes:X?}: {refused}"))
@@ -11,6 +11,10 @@ fn refused(bytes: &[u8]) -> (u32, usize) {
     let Refused { place, refusal, taken } = decode(bytes, 0).expect_err("a refusal");
     assert_eq!(place, 0);
     (refusal.number(), taken)
+}
+
+fn part(offset: u8, width: u8) -> Option<Part> {
+    Some(Part { offset, width })
 }
 
 fn encoded(bytes: &[u8]) -> Vec<u8> {
@@ -33,6 +37,7 @@ fn accepted_lines() {
             length: 7,
             marked: false,
             dropped: true,
+            parts: Parts { first: None, dispabs: part(2, 2), imm_wide: part(4, 3) },
         }
     );
     let rotated = accepted(&[0x75, 0x63]);
@@ -98,6 +103,41 @@ fn signed_numbers() {
     assert_eq!(wide.operand(0).and_then(|operand| operand.number), Some(-16));
     assert_eq!(encode(&wide, &mut [0; m16c::LONGEST_INSTRUCTION], 0), Err(Refusal::NoString));
     assert_eq!(wide.operand(3), None);
+}
+
+/// Request A5: of each field that has one. Encoding does not ask for them.
+#[test]
+fn parts_of_numbers() {
+    let parts = |bytes: &[u8]| {
+        let Parts { first, dispabs, imm_wide } = accepted(bytes).parts();
+        [first, dispabs, imm_wide]
+    };
+    assert_eq!(parts(&[0x78, 0x89, 0x10, 0x20]), [part(2, 1), part(3, 1), None]); // MUL Disp8_A0,Disp8_A1
+    assert_eq!(parts(&[0x78, 0xF8, 0x34, 0x12, 0x20]), [part(2, 2), part(4, 1), None]); // MUL Abs16,Disp8_A0
+    assert_eq!(parts(&[0x74, 0xBC, 0x34, 0x12, 0x20]), [part(2, 2), part(4, 1), None]); // MOV Disp8_SP,Disp16_A0
+    assert_eq!(parts(&[0x77, 0x4C, 0x34, 0x12, 0xE8, 0x03]), [None, part(2, 2), part(4, 2)]); // ADD.W Imm16,Disp16_A0
+    assert_eq!(parts(&[0x7D, 0xC8, 0x05]), [None, None, part(2, 1)]); // JLE Disp8
+    assert_eq!(parts(&[0x7D, 0x0C, 0x10, 0x00, 0x00]), [None, None, part(2, 3)]); // JMPI Disp20_A0
+    assert_eq!(parts(&[0x7E, 0x20, 0x05, 0x06]), [None, part(2, 1), None]); // BMGE Bit_R0: a condition is no number
+
+    // Parts go by fields: this one is the source's displacement, and the line shows it at the other operand. The row is marked.
+    let marked = [0x74, 0x38, 0x10];
+    assert_eq!(parts(&marked), [None, part(2, 1), None]);
+    assert_eq!(line(&marked, 0).map(|line| line.to_string()), Ok("0000 3 B MOV.B Disp8_A0=00 Disp8_SP=10".to_string()));
+
+    // No number, or one in the code: NEG R0L, INT, SHL.L Imm4, LDIPL, ADD Imm8,SP.
+    for bytes in [[0x74, 0x50], [0xEB, 0xC5], [0xEB, 0x8F], [0x7D, 0xA5], [0x7D, 0xB5]] {
+        assert_eq!(accepted(&bytes).parts(), Parts::default());
+    }
+    assert_eq!(Instruction::default().parts(), Parts::default());
+    assert_eq!(part(4, 3).map(Part::range), Some(4..7));
+
+    let short = accepted(&[0x74, 0x5C, 0x00, 0x00]);
+    for parts in [Parts::default(), Parts { first: part(9, 9), dispabs: part(0xFF, 0), imm_wide: part(2, 2) }] {
+        let mut buffer = [0xA1; 3];
+        assert_eq!(encode(&Instruction { parts, ..short }, &mut buffer, 1), Ok(2));
+        assert_eq!(buffer, [0xA1, 0x74, 0x56]);
+    }
 }
 
 #[test]

@@ -18,7 +18,7 @@ use Rattle.readers.specs.steps.Width.{widthOf}
 -- of two first bytes, the even one has width B
 module _ (b : ℕ) (bs : List ℕ) (r : Width → ℕ → ℕ → Row) (even : ℕ) where
   abbrev Answers : ℕ → Type 0
-  Answers a = runRow (r (widthOf (eqb a even)) (b / 16) (b % 16)) bs ≡ pick (known a) (runRow (document01 .rowAt a b) bs) (refusal 4 1)
+  Answers a = runRow (r (widthOf (eqb (a % 2) 0)) (b / 16) (b % 16)) bs ≡ pick (known a) (runRow (document01 .rowAt a b) bs) (refusal 4 1)
 
   pub of-pair : Each (λ k. Answers (even + k)) 2 → (a : ℕ) → even ≤ a → a < even + 2 → Answers a
   of-pair = each-from Answers even 2

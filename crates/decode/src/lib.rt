@@ -34,9 +34,9 @@ fn decode_group(bs: &[u8], a: u8, b: u8) -> Answer
     ensures { λ r. ⌜ r ≡ pick (known a) (runRow (document01 .rowAt a b) (now (bs .entry))) (refusal 4 1) ⌝ }
 {
     match a {
-        0x74 | 0x75 => op74::decode_op74(bs, a == 0x74, b),
-        0x76 | 0x77 => op76::decode_op76(bs, a == 0x76, b),
-        0x78 | 0x79 => op78::decode_op78(bs, a == 0x78, b),
+        0x74 | 0x75 => op74::decode_op74(bs, a % 2 == 0, b),
+        0x76 | 0x77 => op76::decode_op76(bs, a % 2 == 0, b),
+        0x78 | 0x79 => op78::decode_op78(bs, a % 2 == 0, b),
         0x7A => op7A::decode_op7A(bs, b),
         0x7B => op7B::decode_op7B(bs, b),
         0x7C => op7C::decode_op7C(bs, b),

@@ -1,7 +1,8 @@
 ghost use mathlib.Core.Path.{_≡_};
 ghost use Prim.Native.Nat.{_/_, _%_, _<_};
 ghost use Rattle.rows.specs.Rows.{row74};
-ghost use Rattle.rows.specs.Run.{reading, runRow};
+ghost use Rattle.rows.specs.Run.{runRow};
+ghost use Rattle.readers.specs.steps.Told.{readingIn};
 ghost use Rattle.readers.specs.steps.Width.{widthOf};
 ghost use Rattle.decode_74.specs.steps.Op74.{size74, other74, rest74, stop74};
 use readers::answer;
@@ -59,14 +60,10 @@ const OTHERS: [Operand; 16] = [
 fn size_74(byte: bool, h: u8) -> Size
     ensures { λ r. ⌜ r ≡ size74 (widthOf byte) h ⌝ }
 {
-    let k = h % 8;
-    if k < 3 {
-        return Size::None;
+    if set::has(0xD8, h % 8) {
+        return answer::size_of(byte);
     }
-    if k == 5 {
-        return Size::None;
-    }
-    answer::size_of(byte)
+    Size::None
 }
 
 fn other_74(byte: bool, h: u8) -> Operand
@@ -95,7 +92,7 @@ fn stop_74(byte: bool, h: u8, n: u8) -> bool
 
 // What stands behind G(n): 20 bits for STE and LDE at h mod 8 = 0, 1.
 fn rest_74(bs: &[u8], byte: bool, h: u8, s: Seen) -> Got
-    ensures { λ r. ⌜ r ≡ reading (rest74 (widthOf byte) h) (now (bs .entry)) s ⌝ }
+    ensures { λ r. ⌜ r ≡ readingIn (rest74 (widthOf byte) h) (now (bs .entry)) s ⌝ }
 {
     if h % 8 < 2 {
         return numbers::long20(bs, s);

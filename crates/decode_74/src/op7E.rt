@@ -65,13 +65,8 @@ fn conditional(bs: &[u8], name: Operand, s: Seen) -> Answer
     }
     let c = bs[at];
     let o = CONDITIONS[(c % 16) as usize];
-    let t = Seen {
-        imm_wide: s.imm_wide,
-        dispabs: s.dispabs,
-        first: s.first,
-        dropped: s.dropped,
-        taken: at + 1,
-    };
+    let mut t = s;
+    t.taken = at + 1;
     if c < 0x07 {
         return answer::accept(o, Size::None, Width::None, name, Operand::Nothing, false, t);
     }

@@ -10,6 +10,7 @@ use Rattle.record.specs.declared.Size.the-variants as size
 use Rattle.record.specs.declared.Width.the-variants.{B}
 use Rattle.record.specs.declared.Operand.the-variants.{Nothing, «Disp8_FB»}
 use Rattle.record.specs.Blank.{blank}
+use Rattle.record.specs.Parts.{noParts}
 use Rattle.record.specs.Same.{sameName, among, fieldOf, baseOf}
 use Rattle.record.specs.Signed.{isSigned, numberOf, numberAt}
 use Rattle.rows.specs.Codes.{condOf}
@@ -46,6 +47,7 @@ negated v = record {
   op2 = Nothing;
   marked = false;
   dropped = false;
+  parts = noParts;
 }
 
 -- request A3: encoding goes by what a field holds, and not by the number that it is counted as: one number, and one of the two has bytes

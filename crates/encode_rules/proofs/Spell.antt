@@ -98,7 +98,7 @@ nth-is (suc (suc d)) v t l p q = absurd (omega arith)
 
 -- numbers of which nothing was dropped
 abbrev spared : Seen → Seen
-spared s = record { «imm_wide» = s .«imm_wide»; dispabs = s .dispabs; first = s .first; dropped = false; taken = s .taken }
+spared s = record { «imm_wide» = s .«imm_wide»; dispabs = s .dispabs; first = s .first; dropped = false; parts = s .parts; taken = s .taken }
 
 pub record Least (rs : List Read) (xs : List ℕ) (f : Face) (s : Seen) (t : Record) : Type 0 where
   pub more : List ℕ

@@ -7,6 +7,7 @@ use lib.Dec.{ltb, leb}
 use Rattle.laws.specs.Choice.{pick, both}
 use Rattle.record.specs.declared.Record.{Record}
 use Rattle.record.specs.Blank.{blank}
+use Rattle.record.specs.Parts.{noParts}
 use Rattle.record.specs.Names.{opcodes, opcodeAt, sizes, sizeAt, widths, widthAt, operands, operandAt}
 
 -- the number at a place is below a bound
@@ -40,6 +41,7 @@ madeOf ns = record {
   op2 = operandAt (getD ns 6 0);
   marked = false;
   dropped = false;
+  parts = noParts;
 }
 
 -- numbers that make no record make the blank one, which has no operand and which no bytes encode

@@ -5,8 +5,8 @@ use mathlib.Core.Path.{_≡_, sym, ap, _∙_}
 use mathlib.Core.List.{List, [], _∷_, _++_, append-assoc}
 use native.Mathlib.Omega.{arith}
 use native.Mathlib.Numerals.{add-one}
-use lib.ListN.{length, take, drop, set, length-append, length-drop, take-append-drop}
-use lib.Seq.{append-snoc, take-suc-set, drop-set-lt, drop-drop, take-at, drop-at, length-take-le}
+use lib.ListN.{length, getD, take, drop, set, length-append, length-drop, take-append-drop, List·getD-append}
+use lib.Seq.{append-snoc, take-suc-set, drop-set-lt, drop-drop, take-at, drop-at, length-take-le, getD-append-add, getD-take, getD-drop}
 use borrow.Rule.Slice.PartMut.{putMid}
 use Rattle.laws.specs.Over.{over, put}
 use Rattle.laws.proofs.Rest.{rest, given-back}
@@ -45,6 +45,25 @@ module _ (at : ℕ) (l : List ℕ) where
     put-length =
         ap length joined ∙ length-append (take at l ++ xs) behind
         ∙ omega (arith, joined-length, length-drop (length xs) (drop at l), length-drop at l)
+
+    -- what stands there then, and what stays
+    pub put-within : (k : ℕ) → k < length xs → getD (put at xs l) (at + k) 0 ≡ getD xs k 0
+    put-within k m =
+        ap (λ n. getD (put at xs l) (n + k) 0) (sym (length-take-le at l (omega arith))) ∙ getD-append-add (take at l) (xs ++ behind) k 0
+        ∙ List·getD-append xs behind 0 k m
+
+    pub put-before : (i : ℕ) → i < at → getD (put at xs l) i 0 ≡ getD l i 0
+    put-before i m =
+        let e = length-take-le at l (omega arith) in
+        List·getD-append (take at l) (xs ++ behind) 0 i (omega arith) ∙ getD-take at l i 0 m
+
+    pub put-behind : (i : ℕ) → at + length xs ≤ i → getD (put at xs l) i 0 ≡ getD l i 0
+    put-behind i m =
+        let k = i - (at + length xs) in
+        let j : length (take at l ++ xs) + k ≡ i = omega (arith, joined-length) in
+        let n : at + (length xs + k) ≡ i = omega arith in
+        ap (λ x. getD x i 0) joined ∙ ap (λ x. getD ((take at l ++ xs) ++ behind) x 0) (sym j) ∙ getD-append-add (take at l ++ xs) behind k 0
+        ∙ getD-drop (length xs) (drop at l) k 0 ∙ getD-drop at l (length xs + k) 0 ∙ ap (λ x. getD l x 0) n
 
     -- up to the next place
     pub put-taken : {n : ℕ} → n ≡ at + length xs → take n (put at xs l) ≡ take at l ++ xs

@@ -1,23 +1,40 @@
 -- Stores over the first entries, one behind the other, and the size of what they store.
 -- Assumes nothing.
 use Prim.Native.Nat.{ℕ, _+_, _≤_, _<_}
-use mathlib.Core.Path.{_≡_, sym, _∙_, subst}
-use mathlib.Core.List.{List, [], _∷_}
-use lib.ListN.{length, getD, drop, set}
-use lib.Seq.{sets-eq, getD-drop}
+use mathlib.Core.Path.{_≡_, sym, ap, _∙_, subst}
+use mathlib.Core.List.{List, [], _∷_, _++_, append-assoc}
+use native.Mathlib.Omega.{arith}
+use lib.ListN.{length, getD, take, drop, set, length-drop}
+use lib.Seq.{sets-eq, getD-drop, drop-drop}
+use Rattle.laws.specs.Over.{put}
+use Rattle.laws.proofs.Over.{put-whole}
+use Rattle.record.specs.declared.Answer.{Answer}
+use Rattle.record.specs.declared.Parts.{Parts}
 use Rattle.rows.specs.Rows.{document01}
 use Rattle.rows.specs.Run.{decodeRows}
 use Rattle.rows.proofs.Taken.{counted}
 use Rattle.rows.proofs.Length.{seven}
-use Rattle.m16c_decode.specs.Decoded.{entries}
+use Rattle.m16c_decode.specs.Decoded.{entries, partsFrom, partNumbers, numbersOf}
 
--- numbers of names stand for the names' own
-pub stored : (l : List ℕ) {o o′ z z′ w w′ p p′ q q′ r r′ m m′ x x′ : ℕ} (t i d f n : ℕ) → entries ≤ length l
+-- the six of the parts
+pub placed : (l : List ℕ) (a b c d e f : ℕ) → entries ≤ length l
+    → set (set (set (set (set (set l 13 a) 14 b) 15 c) 16 d) 17 e) 18 f ≡ put partsFrom (a ∷ b ∷ c ∷ d ∷ e ∷ f ∷ []) l
+placed l a b c d e f h = let ns = a ∷ b ∷ c ∷ d ∷ e ∷ f ∷ [] in sets-eq ns l partsFrom h ∙ append-assoc (take partsFrom l) ns (drop entries l) ∙ sym (put-whole partsFrom l ns)
+
+-- the others, and those behind them; numbers of names stand for the names' own
+pub stored : (l : List ℕ) {o o′ z z′ w w′ p p′ q q′ r r′ m m′ x x′ : ℕ} (t i d f n : ℕ) (k : Parts) → entries ≤ length l
     → o ≡ o′ → z ≡ z′ → w ≡ w′ → p ≡ p′ → q ≡ q′ → r ≡ r′ → m ≡ m′ → x ≡ x′
-    → set (set (set (set (set (set (set (set (set (set (set (set (set l 0 t) 1 o) 2 z) 3 w) 4 p) 5 q) 6 r) 7 i) 8 d) 9 f) 10 n) 11 m) 12 x
-    ≡ t ∷ o′ ∷ z′ ∷ w′ ∷ p′ ∷ q′ ∷ r′ ∷ i ∷ d ∷ f ∷ n ∷ m′ ∷ x′ ∷ drop entries l
-stored l {o} {o′} {z} {z′} {w} {w′} {p} {p′} {q} {q′} {r} {r′} {m} {m′} {x} {x′} t i d f n h eo ez ew ep eq er em ex =
-    sets-eq (t ∷ o ∷ z ∷ w ∷ p ∷ q ∷ r ∷ i ∷ d ∷ f ∷ n ∷ m ∷ x ∷ []) l 0 h ∙ cc
+    → put partsFrom (partNumbers k) (set (set (set (set (set (set (set (set (set (set (set (set (set l 0 t) 1 o) 2 z) 3 w) 4 p) 5 q) 6 r) 7 i) 8 d) 9 f) 10 n) 11 m) 12 x)
+    ≡ t ∷ o′ ∷ z′ ∷ w′ ∷ p′ ∷ q′ ∷ r′ ∷ i ∷ d ∷ f ∷ n ∷ m′ ∷ x′ ∷ (partNumbers k ++ drop entries l)
+stored l {o} {o′} {z} {z′} {w} {w′} {p} {p′} {q} {q′} {r} {r′} {m} {m′} {x} {x′} t i d f n k h eo ez ew ep eq er em ex =
+    ap (put partsFrom (partNumbers k)) (sets-eq (t ∷ o ∷ z ∷ w ∷ p ∷ q ∷ r ∷ i ∷ d ∷ f ∷ n ∷ m ∷ x ∷ []) l 0 (omega arith))
+    ∙ ap (λ y. t ∷ o ∷ z ∷ w ∷ p ∷ q ∷ r ∷ i ∷ d ∷ f ∷ n ∷ m ∷ x ∷ (partNumbers k ++ y)) (drop-drop 6 partsFrom l)
+    ∙ cc
+
+-- no entry more or less
+pub as-long : (a : Answer) (l : List ℕ) → entries ≤ length l → length (numbersOf a ++ drop entries l) ≡ length l
+unfolding numbersOf
+as-long a l h = omega (arith, length-drop entries l)
 
 -- a second byte is a byte, wherever decoding begins
 pub small : (image : List ℕ) (at : ℕ) → ((k : ℕ) → getD image k 0 < 256) → decodeRows (drop at image) .taken ≤ 7

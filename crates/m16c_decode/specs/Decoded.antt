@@ -7,12 +7,24 @@ use lib.ListN.{length, drop}
 use lib.Dec.{ltb}
 use Rattle.laws.specs.Choice.{pick}
 use Rattle.record.specs.declared.Answer.{Answer}
+use Rattle.record.specs.declared.Parts.{Parts}
 use Rattle.record.specs.Numbers.{opcodeNo, sizeNo, widthNo, operandNo}
 use Rattle.rows.specs.Run.{decodeRows}
 
 abbrev pub flagNo : Bool → ℕ
 flagNo true = 1
 flagNo false = 0
+
+-- request A5: where first, dispabs and imm_wide stand, the offset and the width of each
+abbrev pub partNumbers : Parts → List ℕ
+partNumbers p =
+    p .first .offset
+    ∷ p .first .width
+    ∷ p .dispabs .offset
+    ∷ p .dispabs .width
+    ∷ p .«imm_wide» .offset
+    ∷ p .«imm_wide» .width
+    ∷ []
 
 -- an answer as numbers
 unfoldable pub numbersOf : Answer → List ℕ
@@ -30,11 +42,14 @@ numbersOf x =
     ∷ x .inst .length
     ∷ flagNo (x .inst .marked)
     ∷ flagNo (x .inst .dropped)
-    ∷ []
+    ∷ partNumbers (x .inst .parts)
 
--- so many
+-- so many stand before the parts, and so many are all
+abbrev pub partsFrom : ℕ
+partsFrom = 13
+
 abbrev pub entries : ℕ
-entries = 13
+entries = 19
 
 -- the number returned, and the list as it is left
 pub record Delivered : Type 0 where

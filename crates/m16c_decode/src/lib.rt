@@ -3,8 +3,10 @@ ghost use mathlib.Core.Path.{_≡_};
 ghost use mathlib.Core.List.{_++_};
 ghost use Prim.Native.Nat.{_≤_};
 ghost use lib.ListN.{length, drop};
-ghost use Rattle.m16c_decode.specs.Decoded.{flagNo, numbersOf, entries, Decodes};
+ghost use Rattle.laws.specs.Over.{put};
+ghost use Rattle.m16c_decode.specs.Decoded.{flagNo, partNumbers, partsFrom, numbersOf, entries, Decodes};
 use record::Answer;
+use record::Parts;
 use record::numbers;
 use record::refusal;
 
@@ -15,7 +17,26 @@ fn flag_number(x: bool) -> u32
 }
 
 // So many numbers are an answer.
-const ENTRIES: usize = 13;
+const ENTRIES: usize = 19;
+
+// Where the numbers of a record stand, over the last entries.
+fn deliver_parts(parts: Parts, out: &mut [u32])
+    requires { ⌜ entries ≤ length (now out) ⌝ }
+    ensures { λ r. ⌜ now (out .exit) ≡ put partsFrom (partNumbers parts) (now (out .entry)) ⌝ }
+{
+    let first_offset = parts.first.offset;
+    let first_width = parts.first.width;
+    let dispabs_offset = parts.dispabs.offset;
+    let dispabs_width = parts.dispabs.width;
+    let imm_wide_offset = parts.imm_wide.offset;
+    let imm_wide_width = parts.imm_wide.width;
+    out[13] = first_offset as u32;
+    out[14] = first_width as u32;
+    out[15] = dispabs_offset as u32;
+    out[16] = dispabs_width as u32;
+    out[17] = imm_wide_offset as u32;
+    out[18] = imm_wide_width as u32;
+}
 
 // An answer's numbers over the first entries.
 fn deliver(a: Answer, out: &mut [u32])
@@ -42,10 +63,12 @@ fn deliver(a: Answer, out: &mut [u32])
     out[10] = inst.length as u32;
     out[11] = flag_number(inst.marked);
     out[12] = flag_number(inst.dropped);
+    deliver_parts(inst.parts, out);
 }
 
-// Decodes at a place of an image. Returns the refusal, 0 for none, and fills thirteen entries: taken, opcode, size, width, three
-// operands, imm_wide, dispabs, first, length, marked, dropped. With fewer than thirteen entries it returns 6 and touches none.
+// Decodes at a place of an image. Returns the refusal, 0 for none, and fills nineteen entries: taken, opcode, size, width, three
+// operands, imm_wide, dispabs, first, length, marked, dropped, then offset and width of the bytes that first, dispabs and imm_wide were
+// read from. With fewer than nineteen entries it returns 6 and touches none.
 #[no_mangle]
 pub extern "C" fn m16c_decode(image: &[u8], at: usize, out: &mut [u32]) -> u32
     ensures { λ r. ⌜ Decodes (now (image .entry)) at (now (out .entry)) r (now (out .exit)) ⌝ }

@@ -1,3 +1,4 @@
+pub mod Told
 pub mod Finish
 pub mod Names
 pub mod Nibble

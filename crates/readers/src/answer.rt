@@ -24,6 +24,7 @@ pub fn accept(
 ) -> Answer
     ensures { λ r. ⌜ r ≡ accepted opcode size width op0 op1 marked s ⌝ }
 {
+    let parts = s.parts;
     let r = Record {
         imm_wide: s.imm_wide,
         dispabs: s.dispabs,
@@ -37,6 +38,7 @@ pub fn accept(
         op2: Operand::Nothing,
         marked: marked,
         dropped: s.dropped,
+        parts: parts,
     };
     Answer {
         inst: r,
@@ -95,6 +97,7 @@ pub const BEGIN: Seen = Seen {
     dispabs: 0,
     first: 0,
     dropped: false,
+    parts: record::NO_PARTS,
     taken: 2,
 };
 

@@ -2,7 +2,7 @@ ghost use mathlib.Core.Path.{_≡_};
 ghost use Prim.Native.Nat.{_%_};
 ghost use Rattle.rows.specs.Row.{disp};
 ghost use Rattle.rows.specs.Codes.{nameT, sizeT};
-ghost use Rattle.rows.specs.Run.{reading};
+ghost use Rattle.readers.specs.steps.Told.{readingIn};
 use crate::general;
 use crate::numbers;
 use record::Got;
@@ -37,7 +37,7 @@ pub fn bit_name(code: u8) -> Operand
 
 // T(code): registers have the bit's number in a byte, the rest is as G.
 pub fn bit(bs: &[u8], s: Seen, code: u8) -> Got
-    ensures { λ r. ⌜ r ≡ reading (disp (sizeT code)) (now (bs .entry)) s ⌝ }
+    ensures { λ r. ⌜ r ≡ readingIn (disp (sizeT code)) (now (bs .entry)) s ⌝ }
 {
     if code < 6 {
         return numbers::disp_byte(bs, s);

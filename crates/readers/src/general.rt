@@ -2,7 +2,7 @@ ghost use mathlib.Core.Path.{_≡_};
 ghost use Prim.Native.Nat.{_%_};
 ghost use Rattle.rows.specs.Row.{disp};
 ghost use Rattle.rows.specs.Codes.{nameG, sizeG};
-ghost use Rattle.rows.specs.Run.{reading};
+ghost use Rattle.readers.specs.steps.Told.{readingIn};
 ghost use Rattle.readers.specs.steps.Width.{widthOf};
 use crate::numbers;
 use record::Got;
@@ -64,7 +64,7 @@ pub fn general_name(byte: bool, code: u8) -> Operand
 
 // G(code): its displacement, none below 8, one byte below 12, two from there.
 pub fn general(bs: &[u8], s: Seen, code: u8) -> Got
-    ensures { λ r. ⌜ r ≡ reading (disp (sizeG code)) (now (bs .entry)) s ⌝ }
+    ensures { λ r. ⌜ r ≡ readingIn (disp (sizeG code)) (now (bs .entry)) s ⌝ }
 {
     if code < 8 {
         return Got::On(s);

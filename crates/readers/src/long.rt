@@ -2,7 +2,7 @@ ghost use mathlib.Core.Path.{_≡_};
 ghost use Prim.Native.Nat.{_%_, _<_};
 ghost use Rattle.record.specs.declared.Width.{Width};
 ghost use Rattle.rows.specs.Codes.{nameJ, nameP, noPair, numJ};
-ghost use Rattle.rows.specs.Run.{reading};
+ghost use Rattle.readers.specs.steps.Told.{readingIn};
 ghost use Rattle.readers.specs.steps.Places.{pairPlace, longPlace};
 use crate::general;
 use crate::numbers;
@@ -50,7 +50,7 @@ pub fn long_refused(code: u8) -> bool
 
 // J(code): 20 bits at C and D, the rest is as G.
 pub fn long(bs: &[u8], s: Seen, code: u8) -> Got
-    ensures { λ r. ⌜ r ≡ reading (numJ code) (now (bs .entry)) s ⌝ }
+    ensures { λ r. ⌜ r ≡ readingIn (numJ code) (now (bs .entry)) s ⌝ }
 {
     if code == 12 {
         return numbers::long20(bs, s);

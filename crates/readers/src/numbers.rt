@@ -3,10 +3,13 @@ ghost use mathlib.Core.Path.{_≡_};
 ghost use Prim.Native.Nat.{_+_, _*_, _%_};
 ghost use Rattle.rows.specs.Row.{disp, imm, imm20};
 ghost use Rattle.rows.specs.Codes.{nameI, sizeI};
-ghost use Rattle.rows.specs.Run.{reading};
+ghost use Rattle.rows.specs.Run.{dispAt, immAt};
+ghost use Rattle.readers.specs.steps.Told.{readingIn};
 ghost use Rattle.readers.specs.steps.Width.{widthOf};
 use record::Got;
 use record::Operand;
+use record::Part;
+use record::Parts;
 use record::Seen;
 
 fn wide(x: u8) -> u16
@@ -40,11 +43,51 @@ fn three(a: u8, b: u8, c: u8) -> u32
     (a as u32) + 256 * (b as u32) + 65536 * ((c % 16) as u32)
 }
 
+// A place as a byte tells it: no instruction has 256 bytes.
+fn place_of(at: usize) -> u8
+    ensures { λ r. ⌜ r ≡ at % 256 ⌝ }
+{
+    (at % 256) as u8
+}
+
+// The parts once a displacement is read; first takes over the place of the one before it.
+fn disp_at(at: usize, width: u8, before: Parts) -> Parts
+    ensures { λ r. ⌜ r ≡ dispAt (at % 256) width before ⌝ }
+{
+    let earlier = before.dispabs;
+    let wide = before.imm_wide;
+    Parts {
+        first: earlier,
+        dispabs: Part {
+            offset: place_of(at),
+            width: width,
+        },
+        imm_wide: wide,
+    }
+}
+
+// The parts once a number for imm_wide is read.
+fn imm_at(at: usize, width: u8, before: Parts) -> Parts
+    ensures { λ r. ⌜ r ≡ immAt (at % 256) width before ⌝ }
+{
+    let earlier = before.first;
+    let short = before.dispabs;
+    Parts {
+        first: earlier,
+        dispabs: short,
+        imm_wide: Part {
+            offset: place_of(at),
+            width: width,
+        },
+    }
+}
+
 // One byte into dispabs; first keeps what it had.
 pub fn disp_byte(bs: &[u8], s: Seen) -> Got
-    ensures { λ r. ⌜ r ≡ reading (disp 1) (now (bs .entry)) s ⌝ }
+    ensures { λ r. ⌜ r ≡ readingIn (disp 1) (now (bs .entry)) s ⌝ }
 {
     let at = s.taken;
+    let before = s.parts;
     if bs.len() <= at {
         return Got::Short;
     }
@@ -53,15 +96,17 @@ pub fn disp_byte(bs: &[u8], s: Seen) -> Got
         dispabs: wide(bs[at]),
         first: s.dispabs,
         dropped: s.dropped,
+        parts: disp_at(at, 1, before),
         taken: at + 1,
     })
 }
 
 // Two bytes into dispabs.
 pub fn disp_word(bs: &[u8], s: Seen) -> Got
-    ensures { λ r. ⌜ r ≡ reading (disp 2) (now (bs .entry)) s ⌝ }
+    ensures { λ r. ⌜ r ≡ readingIn (disp 2) (now (bs .entry)) s ⌝ }
 {
     let at = s.taken;
+    let before = s.parts;
     if bs.len() < 2 {
         return Got::Short;
     }
@@ -73,15 +118,17 @@ pub fn disp_word(bs: &[u8], s: Seen) -> Got
         dispabs: word(bs[at], bs[at + 1]),
         first: s.dispabs,
         dropped: s.dropped,
+        parts: disp_at(at, 2, before),
         taken: at + 2,
     })
 }
 
 // One byte into imm_wide.
 pub fn imm_byte(bs: &[u8], s: Seen) -> Got
-    ensures { λ r. ⌜ r ≡ reading (imm 1) (now (bs .entry)) s ⌝ }
+    ensures { λ r. ⌜ r ≡ readingIn (imm 1) (now (bs .entry)) s ⌝ }
 {
     let at = s.taken;
+    let before = s.parts;
     if bs.len() <= at {
         return Got::Short;
     }
@@ -90,15 +137,17 @@ pub fn imm_byte(bs: &[u8], s: Seen) -> Got
         dispabs: s.dispabs,
         first: s.first,
         dropped: false,
+        parts: imm_at(at, 1, before),
         taken: at + 1,
     })
 }
 
 // Two bytes into imm_wide.
 pub fn imm_word(bs: &[u8], s: Seen) -> Got
-    ensures { λ r. ⌜ r ≡ reading (imm 2) (now (bs .entry)) s ⌝ }
+    ensures { λ r. ⌜ r ≡ readingIn (imm 2) (now (bs .entry)) s ⌝ }
 {
     let at = s.taken;
+    let before = s.parts;
     if bs.len() < 2 {
         return Got::Short;
     }
@@ -110,15 +159,17 @@ pub fn imm_word(bs: &[u8], s: Seen) -> Got
         dispabs: s.dispabs,
         first: s.first,
         dropped: false,
+        parts: imm_at(at, 2, before),
         taken: at + 2,
     })
 }
 
 // L: three bytes into imm_wide, 20 bits of them, and whether the nibble above was not zero.
 pub fn long20(bs: &[u8], s: Seen) -> Got
-    ensures { λ r. ⌜ r ≡ reading imm20 (now (bs .entry)) s ⌝ }
+    ensures { λ r. ⌜ r ≡ readingIn imm20 (now (bs .entry)) s ⌝ }
 {
     let at = s.taken;
+    let before = s.parts;
     if bs.len() < 3 {
         return Got::Short;
     }
@@ -131,13 +182,14 @@ pub fn long20(bs: &[u8], s: Seen) -> Got
         dispabs: s.dispabs,
         first: s.first,
         dropped: 16 <= third,
+        parts: imm_at(at, 3, before),
         taken: at + 3,
     })
 }
 
 // I: one byte at B, two at W.
 pub fn immediate(bs: &[u8], byte: bool, s: Seen) -> Got
-    ensures { λ r. ⌜ r ≡ reading (imm (sizeI (widthOf byte))) (now (bs .entry)) s ⌝ }
+    ensures { λ r. ⌜ r ≡ readingIn (imm (sizeI (widthOf byte))) (now (bs .entry)) s ⌝ }
 {
     if byte {
         return imm_byte(bs, s);

@@ -183,13 +183,22 @@ pub enum Operand {
     FB,
 }
 
-// The Rust's `operands: [OperandSpec; 3]` are three fields.
+// Where a number stands in the bytes of an instruction, and how many bytes it has there. Both are 0 if none behind the second was read for it.
+pub struct Part {
+    pub offset: u8,
+    pub width: u8,
+}
+
+// The part of each number that a record holds.
+pub struct Parts {
+    pub first: Part,
+    pub dispabs: Part,
+    pub imm_wide: Part,
+}
+
+// The Rust's `operands: [OperandSpec; 3]` are three fields. (What is one byte stands first: so the compiled decoder takes some instructions
+// fewer, and `parts` first in `Seen`.)
 pub struct Record {
-    pub imm_wide: u32,
-    pub dispabs: u16,
-    // The earlier of two displacements; `dispabs` has the later.
-    pub first: u16,
-    pub length: usize,
     pub opcode: Opcode,
     pub size: Size,
     pub width: Width,
@@ -200,7 +209,26 @@ pub struct Record {
     pub marked: bool,
     // A 20-bit number was read from three bytes of which the upper nibble, which is not kept, was not zero.
     pub dropped: bool,
+    pub parts: Parts,
+    pub imm_wide: u32,
+    pub dispabs: u16,
+    // The earlier of two displacements; `dispabs` has the later.
+    pub first: u16,
+    pub length: usize,
 }
+
+// No byte was read for it.
+pub const NO_PART: Part = Part {
+    offset: 0,
+    width: 0,
+};
+
+// No byte was read for any number.
+pub const NO_PARTS: Parts = Parts {
+    first: NO_PART,
+    dispabs: NO_PART,
+    imm_wide: NO_PART,
+};
 
 // What a refusal returns for a record.
 pub const BLANK: Record = Record {
@@ -216,6 +244,7 @@ pub const BLANK: Record = Record {
     op2: Operand::Nothing,
     marked: false,
     dropped: false,
+    parts: NO_PARTS,
 };
 
 // All that counts of a record: two records are the same instruction if these agree.
@@ -238,8 +267,10 @@ pub struct Answer {
     pub refusal: u8,
 }
 
-// What a row's reads pass on from one to the next: the numbers read so far, whether imm_wide lost bits, and the bytes taken.
+// What a row's reads pass on from one to the next: the numbers read so far, whether imm_wide lost bits, where the numbers stand, and the bytes
+// taken.
 pub struct Seen {
+    pub parts: Parts,
     pub imm_wide: u32,
     pub dispabs: u16,
     pub first: u16,

@@ -1,13 +1,11 @@
--- A line with bytes to decode: which text is one, the bytes that it gives, and when it is right.
+-- A line with bytes to decode: which text is one, and when it is right.
 use Prim.Native.Nat.{ℕ}
 use mathlib.Core.Path.{_≡_}
 use mathlib.Core.List.{List}
-use lib.ListN.{take}
-use Rattle.record.specs.declared.Answer.{Answer}
-use Rattle.rows.specs.Run.{decodeRows}
 use Rattle.laws.specs.Text.{spelled}
 use Rattle.replay.specs.Form.{Gives}
-use Rattle.replay.specs.Hex.{digitAt, bytesAt}
+use Rattle.replay.specs.Given.{answerAt}
+use Rattle.replay.specs.Hex.{digitAt}
 use Rattle.replay.specs.Numbers.{numbersIn, numbersOf}
 
 -- bytes given, eight bytes; refusal, bytes taken; opcode, size, operands; imm_wide, dispabs, length
@@ -18,10 +16,6 @@ form = spelled "# ################ # # ######### ######## #### #\n"
 abbrev pub Whole : List ℕ → Type 0
 Whole s = Gives form (digitAt s 0) 8 s
 
--- what the rows of document 01 say of the bytes that a line gives
-abbrev pub answerTo : List ℕ → Answer
-answerTo s = decodeRows (take (digitAt s 0) (bytesAt 8 s 2))
-
 -- the numbers that the line says are those of the answer
 abbrev pub Right : List ℕ → Type 0
-Right s = numbersIn s ≡ numbersOf (answerTo s)
+Right s = numbersIn s ≡ numbersOf (answerAt s 0)

@@ -2,9 +2,11 @@ pub mod Hex
 pub mod Form
 pub mod Verdict
 pub mod Numbers
+pub mod Given
 pub mod Decoding
 pub mod Encoding
 pub mod Sweeping
 pub mod Asking
+pub mod Placing
 pub mod Line
 pub mod Tally

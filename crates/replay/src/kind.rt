@@ -1,5 +1,5 @@
-// What a line of the stored list holds: a record to encode, an image to sweep by a rule, a record with an operand to ask for, or bytes to
-// decode.
+// What a line of the stored list holds: a record to encode, an image to sweep by a rule, a record with an operand to ask for, bytes whose
+// numbers are to be placed, or bytes to decode.
 ghost use mathlib.Core.Path.{_≡_};
 ghost use Rattle.replay.specs.Line.{kindOf};
 use sweep::Rule;
@@ -8,6 +8,7 @@ pub enum Kind {
     Encodes,
     Sweeps(Rule),
     Asks,
+    Places,
     Decodes,
 }
 
@@ -29,6 +30,9 @@ pub(crate) fn kind_of(line: &[u8]) -> Kind
     }
     if line[0] == b'N' {
         return Kind::Asks;
+    }
+    if line[0] == b'P' {
+        return Kind::Places;
     }
     Kind::Decodes
 }

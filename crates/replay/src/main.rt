@@ -4,9 +4,11 @@ mod asking;
 mod decoding;
 mod encoding;
 mod form;
+mod given;
 mod hex;
 mod kind;
 mod numbers;
+mod placing;
 mod sweeping;
 mod tally;
 mod verdict;
@@ -38,6 +40,7 @@ fn is_whole(line: &[u8], kind: Kind) -> bool
         Kind::Encodes => encoding::is_whole(line),
         Kind::Sweeps(rule) => sweeping::is_whole(line, rule),
         Kind::Asks => asking::is_whole(line),
+        Kind::Places => placing::is_whole(line),
         Kind::Decodes => decoding::is_whole(line),
     }
 }
@@ -50,6 +53,7 @@ fn agrees(line: &[u8], kind: Kind) -> bool
         Kind::Encodes => encoding::agrees(line),
         Kind::Sweeps(rule) => sweeping::agrees(line, rule),
         Kind::Asks => asking::agrees(line),
+        Kind::Places => placing::agrees(line),
         Kind::Decodes => decoding::agrees(line),
     }
 }

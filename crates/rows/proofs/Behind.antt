@@ -1,6 +1,6 @@
 -- No byte behind those taken counts, for any row table: an answer other than refusal 1 is the answer to whatever begins with the bytes it took.
 -- Assumes nothing.
-use Prim.Native.Nat.{ℕ, zero, suc, _+_, _*_, _≤_, _<_}
+use Prim.Native.Nat.{ℕ, _+_, _≤_, _<_}
 use mathlib.Core.Path.{_≡_, refl, ap, _∙_, subst}
 use mathlib.Core.Bool.{Bool, true, false}
 use mathlib.Core.List.{List, [], _∷_}
@@ -17,6 +17,7 @@ use Rattle.rows.specs.Codes.{condOf}
 use Rattle.rows.specs.Fate.{bytesOf}
 use Rattle.rows.specs.Run.{bytes, reading, readDisp, readInto, withDisp, inFull, inTwenty, andThen, past, renamed, refusal, run, runRow, begun, decodeBy}
 use Rattle.rows.proofs.Along.{Went, reading-went}
+use Rattle.rows.proofs.Bytes.{bytes-alike}
 use Rattle.rows.proofs.Taken.{run-counted, row-counted}
 use Rattle.rows.proofs.Refusals.{outside}
 
@@ -26,12 +27,8 @@ pub record Begins (k : ℕ) (bs cs : List ℕ) : Type 0 where
   pub equal : (i : ℕ) → i < k → getD cs i 0 ≡ getD bs i 0
 
 module _ (k : ℕ) (bs cs : List ℕ) (h : Begins k bs cs) where
-  bytes-alike : (n p : ℕ) → p + n ≤ k → bytes cs p n ≡ bytes bs p n
-  bytes-alike zero p l = refl
-  bytes-alike (suc zero) p l = h .equal p (omega arith)
-  bytes-alike (suc (suc n)) p l =
-      ap (λ x. x + 256 * bytes cs (p + 1) (suc n)) (h .equal p (omega arith))
-      ∙ ap (λ x. getD bs p 0 + 256 * x) (bytes-alike (suc n) (p + 1) (omega arith))
+  number-alike : (n p : ℕ) → p + n ≤ k → bytes cs p n ≡ bytes bs p n
+  number-alike n p l = bytes-alike bs cs n p p (λ i m. h .equal (p + i) (omega arith))
 
   -- a number that was read there is read here
   read-alike : (n : ℕ) (s t : Seen) (w : ℕ → Seen) → ((v : ℕ) → w v .taken ≡ s .taken + n) → t .taken ≤ k
@@ -45,7 +42,7 @@ module _ (k : ℕ) (bs cs : List ℕ) (h : Begins k bs cs) where
           let q : w (bytes bs (s .taken) n) ≡ t = cc in
           let r : w (bytes bs (s .taken) n) .taken ≡ t .taken = ap (λ x. x .taken) q in
           let m : s .taken + n ≤ length cs = omega (arith, took (bytes bs (s .taken) n), h .long) in
-          rw (le-leb _ _ m, bytes-alike n (s .taken) (omega (arith, took (bytes bs (s .taken) n)))) g
+          rw (le-leb _ _ m, number-alike n (s .taken) (omega (arith, took (bytes bs (s .taken) n)))) g
       by false f = let g : Short ≡ On t = rw f at e in let z : _≡_ {A = ℕ} 0 1 = cc in absurd (omega arith)
 
   reading-alike : (j : Num) (s t : Seen) → t .taken ≤ k → reading j bs s ≡ On t → reading j cs s ≡ On t

@@ -4,6 +4,7 @@ pub mod Along
 pub mod Taken
 pub mod Refusals
 pub mod Sizes
+pub mod Bytes
 pub mod Behind
 pub mod All
 pub mod Counts
@@ -11,7 +12,10 @@ pub mod Length
 pub mod Depth
 pub mod Late
 pub mod Agree
-pub mod Bytes
 pub mod Spans
+pub mod Laid
+pub mod Plain
 pub mod Manual
 pub mod Dropped
+pub mod Parts
+pub mod Patch

@@ -5,11 +5,12 @@ use mathlib.Core.Path.{_≡_, refl, sym, ap, ap₂, subst, _∙_}
 use mathlib.Core.Bool.{Bool, true, false, not}
 use mathlib.Core.List.{List, _∷_}
 use native.Mathlib.Nat.{mod-eq-of-lt}
-use lib.Dec.{T, eqb, eqb→eq}
+use lib.Dec.{T, eqb, ltb, eqb→eq, ltb→lt}
 use lib.ListN.{getD}
 use borrow.Author.Tests.{eqb-true}
 use Rattle.laws.specs.Choice.{pick, both}
 use Rattle.laws.proofs.Choice.{both-left, both-right}
+use Rattle.record.specs.declared.Part.{Part}
 use Rattle.record.specs.declared.Opcode.{Opcode}
 use Rattle.record.specs.declared.Operand.{Operand}
 use Rattle.record.specs.declared.Operand.the-variants.{Nothing}
@@ -28,22 +29,14 @@ use Rattle.rows.specs.Codes.{condOf}
 use Rattle.rows.specs.Rows.{known, rowsOf, document01}
 use Rattle.rows.specs.Run.{decodeRows}
 use Rattle.rows.specs.All.{everyCode}
-use Rattle.rows.specs.Spans.{Span, Source, code, read, twenty, Naming, byRow, byByte, Spans, spansOf, numberIn, wideIn, namedIn, MadeBy}
+use Rattle.rows.specs.Spans.{Source, code, read, twenty, Naming, byRow, byByte, Spans, spansOf, numberIn, wideIn, namedIn, MadeBy}
 use Rattle.rows.specs.Agree.{numberAt, Shows, inCode, recorded, conditional, mnemonicIn, sizeFits, AsManual}
 use Rattle.rows.specs.steps.Meant.{spot, spotWide, meaningOf}
 use Rattle.rows.proofs.All.{every-code}
 use Rattle.rows.proofs.Agree.{row-agreement, condition}
-use Rattle.rows.proofs.Bytes.{at-bytes, bytes-small}
+use Rattle.rows.proofs.Bytes.{at-bytes}
+use Rattle.rows.proofs.Plain.{plainPart, plainSource, Plain, plain-at, whole, wide-again}
 use Rattle.rows.proofs.Spans.{accepted}
-
--- what document 01's spans are: three bytes are read into imm_wide alone, and kept to 20 bits; other numbers are kept whole
-plainSpan : Span → Bool
-plainSpan s = not (eqb (s .count) 3)
-
-plainSource : Source → Bool
-plainSource code = true
-plainSource (read s) = plainSpan s
-plainSource (twenty p) = true
 
 -- a condition byte is the last, and only where the manual has BMcnd
 plainNaming : Naming → Entry → Bool
@@ -51,53 +44,23 @@ plainNaming byRow (meaning m) = not (conditional m)
 plainNaming (byByte p) (meaning m) = both (conditional m) (eqb p (m .length - 1))
 plainNaming n empty = true
 
-plainSpans : Spans → Entry → Bool
-plainSpans z e = both (both (plainSource (z .wide)) (plainNaming (z .naming) e)) (both (plainSpan (z .short)) (plainSpan (z .early)))
+namedAt : ℕ → ℕ → Bool
+namedAt a b = plainNaming (spansOf (document01 .rowAt a b) .naming) (entryAt a b)
 
-plainAt : ℕ → ℕ → Bool
-plainAt a b = plainSpans (spansOf (document01 .rowAt a b)) (entryAt a b)
+all-named : T (everyCode namedAt)
+unfolding everyCode namedAt plainNaming spansOf rowsOf entryAt
+all-named = tt
 
-all-plain : T (everyCode plainAt)
-unfolding everyCode plainAt plainSpans plainSource plainSpan plainNaming spansOf rowsOf entryAt
-all-plain = tt
-
-record Plain (z : Spans) (e : Entry) : Type 0 where
-  wide : T (plainSource (z .wide))
-  naming : T (plainNaming (z .naming) e)
-  short : T (plainSpan (z .short))
-  early : T (plainSpan (z .early))
-
-passed : (z : Spans) (e : Entry) → T (plainSpans z e) → Plain z e
-unfolding plainSpans
-passed z e t =
-    let x = both-left (both (plainSource (z .wide)) (plainNaming (z .naming) e)) (both (plainSpan (z .short)) (plainSpan (z .early))) t in
-    let y = both-right (both (plainSource (z .wide)) (plainNaming (z .naming) e)) (both (plainSpan (z .short)) (plainSpan (z .early))) t in
-    record {
-      wide = both-left (plainSource (z .wide)) (plainNaming (z .naming) e) x;
-      naming = both-right (plainSource (z .wide)) (plainNaming (z .naming) e) x;
-      short = both-left (plainSpan (z .short)) (plainSpan (z .early)) y;
-      early = both-right (plainSpan (z .short)) (plainSpan (z .early)) y;
-    }
-
-plain-at : (a b : ℕ) → known a ≡ true → b < 256 → Plain (spansOf (document01 .rowAt a b)) (entryAt a b)
-unfolding plainAt
-plain-at a b k l = passed _ _ (every-code plainAt all-plain b l a k)
-
--- the number at a span is the manual's: three bytes are masked, and others are small enough
-unmasked : (bs : List ℕ) (s : Span) → T (plainSpan s) → numberIn bs s ≡ numberAt bs (s .from) (s .count)
-unfolding plainSpan
-unmasked bs s = by (eqb (s .count) 3)
-  where
-    by : (e : Bool) → T (not e) → numberIn bs s ≡ pick e (numberIn bs s % 0x100000) (numberIn bs s)
-    by true t = absurd t
-    by false t = refl
+naming-at : (a b : ℕ) → known a ≡ true → b < 256 → T (plainNaming (spansOf (document01 .rowAt a b) .naming) (entryAt a b))
+unfolding namedAt
+naming-at a b k l = every-code namedAt all-named b l a k
 
 -- what a row made of bytes, and what the row's spots show
-module _ (w : Row) (bs : List ℕ) (h : Bytes bs) (r : Record) (made : MadeBy w bs r) (e : Entry) (plainly : Plain (spansOf w) e) where
+module _ (w : Row) (bs : List ℕ) (h : Bytes bs) (r : Record) (made : MadeBy w bs r) (a b : ℕ) (plainly : Plain a b (spansOf w)) where
   wide-shows : (a : Operand) (q : Source) → T (plainSource q) → r .«imm_wide» ≡ wideIn bs (w .number) q → Shows bs (spotWide a (w .number) q) a (r .«imm_wide»)
   unfolding plainSource
   wide-shows a code t k = (refl, ap (inCode a) k)
-  wide-shows a (read s) t k = (refl, k ∙ mod-eq-of-lt (bytes-small (s .count) (s .from) bs h) ∙ unmasked bs s t)
+  wide-shows a (read p) t k = (refl, k ∙ wide-again bs (w .number) h (read p) t (ltb→lt 0 (p .width) (both-right (plainPart p) (ltb 0 (p .width)) t)))
   wide-shows a (twenty p) t k = (refl, k)
 
   shows : (a : Operand) (x : Field) → Shows bs (spot a x w) a (valueOf x r)
@@ -108,8 +71,8 @@ module _ (w : Row) (bs : List ℕ) (h : Bytes bs) (r : Record) (made : MadeBy w 
       by true k = operands-apart a Nothing (eqb-true _ _ k)
       by false k = refl
   shows a wide = wide-shows a (spansOf w .wide) (plainly .wide) (made .«imm_wide»)
-  shows a short = (refl, made .dispabs ∙ unmasked bs (spansOf w .short) (plainly .short))
-  shows a early = (refl, made .first ∙ unmasked bs (spansOf w .early) (plainly .early))
+  shows a short = (refl, made .dispabs ∙ sym (whole (spansOf w .short) _ (plainly .short)))
+  shows a early = (refl, made .first ∙ sym (whole (spansOf w .early) _ (plainly .early)))
 
   -- as the record names its operands
   shown : (s : Spot) (a o : Operand) (x y : Field) → spot a x w ≡ s → o ≡ a → y ≡ x → Shows bs s o (valueOf y r)
@@ -142,12 +105,12 @@ module _ (a b : ℕ) (bs : List ℕ) (h : Bytes (a ∷ b ∷ bs)) where
       let made = x .made in
       let plainly = plain-at a b (x .known) (h .1 .0) in
       let g = row-agreement a b (x .known) (h .1 .0) (x .alive) (sym (made .marked) ∙ u) m e in
-      let named-so : T (plainNaming (spansOf w .naming) (meaning m)) = subst (λ y. T (plainNaming (spansOf w .naming) y)) e (plainly .naming) in
+      let named-so : T (plainNaming (spansOf w .naming) (meaning m)) = subst (λ y. T (plainNaming (spansOf w .naming) y)) e (naming-at a b (x .known) (h .1 .0)) in
       record {
         mnemonic = mnemonic all h m (r .opcode) (spansOf w .naming) named-so (ap (λ y. namedIn all (y .mnemonic) (spansOf w .naming)) (sym (g .said)) ∙ made .opcode);
         size = subst (λ y. T (sizeFits a b y (r .width) (m .suffix))) (sym (made .size)) (subst (λ y. T (sizeFits a b (w .face .size) y (m .suffix))) (sym (made .width)) (g .size));
-        op0 = shown w all h r made (entryAt a b) plainly _ _ _ _ _ (ap (λ y. y .op0) (g .said)) (made .op0) (ap₂ field0 (made .op0) (made .op1));
-        op1 = shown w all h r made (entryAt a b) plainly _ _ _ _ _ (ap (λ y. y .op1) (g .said)) (made .op1) (ap₂ field1 (made .op0) (made .op1));
+        op0 = shown w all h r made a b plainly _ _ _ _ _ (ap (λ y. y .op0) (g .said)) (made .op0) (ap₂ field0 (made .op0) (made .op1));
+        op1 = shown w all h r made a b plainly _ _ _ _ _ (ap (λ y. y .op1) (g .said)) (made .op1) (ap₂ field1 (made .op0) (made .op1));
         op2 = made .op2;
         length = made .length ∙ ap (λ y. y .length) (g .said);
       }

@@ -1,5 +1,5 @@
 -- What decoding refuses with, of any row table: a number up to 4, so that what says that a buffer is too small is no refusal of bytes; and 4
--- by the first byte alone, since a row refuses with a number up to 3.
+-- by the first byte alone, since a row refuses with a number up to 3. With it comes the blank record.
 -- Assumes nothing.
 use Prim.Native.Nat.{ℕ, _≤_}
 use mathlib.Core.Path.{_≡_, refl}
@@ -8,6 +8,7 @@ use mathlib.Core.List.{List, [], _∷_}
 use native.Mathlib.Omega.{arith}
 use Rattle.record.specs.declared.Answer.{Answer}
 use Rattle.laws.proofs.Choice.{pick-holds}
+use Rattle.record.specs.Blank.{blank}
 use Rattle.rows.specs.Row.{Refusal, InvalidOpcode, InvalidOperand, refusalNo, Table}
 use Rattle.rows.specs.Run.{refusal, runRow, begun, decodeBy}
 use Rattle.rows.proofs.Along.{Events, along}
@@ -30,6 +31,21 @@ events bs = record {
   stops = λ e rs n l. own e;
 }
 
+-- the record beside a refusal
+abbrev Blank : Answer → Type 0
+Blank x = (x .refusal ≡ 0 → ⊥) → x .inst ≡ blank
+
+blanks : (bs : List ℕ) → Events bs (λ rs n x. Blank x)
+blanks bs = record {
+  ends = λ n x l z t h k. absurd (k z);
+  goes-on = λ k rs n x l h. h;
+  runs-out = λ k rs n l s e. refl;
+  names = λ rs n x l h. h;
+  names-none = λ rs n l e. refl;
+  no-condition = λ rs n e k. refl;
+  stops = λ e rs n l k. refl;
+}
+
 -- a row's refusal, or that of a first byte outside
 abbrev First : Answer → Type 0
 First x = (x .refusal ≤ 4) × (x .refusal ≡ 4 → x .taken ≡ 1)
@@ -47,6 +63,16 @@ module _ (t : Table) where
       pick-holds First (t .known a) (runRow r (a ∷ b ∷ bs)) (refusal 4 1)
       (λ e. by-row (runRow r (a ∷ b ∷ bs)) (along (events (a ∷ b ∷ bs)) (r .reads) (r .face) (begun (r .number)) (omega arith)))
       (λ e. (omega arith, λ f. refl))
+
+  -- demand 1: with a refusal comes the blank record
+  pub refused-blank : (bs : List ℕ) → (decodeBy t bs .refusal ≡ 0 → ⊥) → decodeBy t bs .inst ≡ blank
+  unfolding decodeBy runRow
+  refused-blank [] = λ n. refl
+  refused-blank (a ∷ []) = pick-holds Blank (t .known a) (refusal 1 1) (refusal 4 1) (λ e n. refl) (λ e n. refl)
+  refused-blank (a ∷ b ∷ bs) =
+      let r = t .rowAt a b in
+      pick-holds Blank (t .known a) (runRow r (a ∷ b ∷ bs)) (refusal 4 1)
+      (λ e. along (blanks (a ∷ b ∷ bs)) (r .reads) (r .face) (begun (r .number)) (omega arith)) (λ e n. refl)
 
   -- a first byte outside, whatever follows
   pub outside : (a : ℕ) (bs : List ℕ) → t .known a ≡ false → decodeBy t (a ∷ bs) ≡ refusal 4 1

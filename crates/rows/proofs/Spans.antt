@@ -1,4 +1,4 @@
--- The two readings of a row agree: what decoding accepts has the numbers that stand at the row's spans, and their length. Of any row table.
+-- The two readings of a row agree: what decoding accepts has the numbers that stand at the row's parts, these parts and their length. Of any row table.
 -- Assumes nothing.
 use Prim.Native.Nat.{ℕ, _+_, _%_, _^_}
 use mathlib.Core.Path.{_≡_, refl, sym, ap, _∙_}
@@ -9,14 +9,16 @@ use lib.ListN.{length, getD}
 use lib.Dec.{eqb, leb, ltb}
 use Rattle.laws.specs.Choice.{pick}
 use Rattle.record.specs.declared.Opcode.{Opcode}
+use Rattle.record.specs.declared.Parts.{Parts}
 use Rattle.record.specs.declared.Record.{Record}
 use Rattle.record.specs.declared.Seen.{Seen}
 use Rattle.record.specs.declared.Got.the-variants.{On, Short}
+use Rattle.record.specs.Parts.{part}
 use Rattle.rows.specs.Row.{disp, imm, imm20, InvalidOpcode, InvalidOperand, Read, num, cond, stop, Condition, named, unnamed, Face, Row, Table}
 use Rattle.rows.specs.Codes.{condOf}
 use Rattle.rows.specs.Fate.{fate}
-use Rattle.rows.specs.Run.{bytes, twentyBits, readDisp, readInto, withDisp, withImm, andThen, judged, past, renamed, refusal, run, runRow, begun, decodeBy}
-use Rattle.rows.specs.Spans.{span, Source, read, twenty, Spans, follow, spansOf, dispNext, immNext, condNext, numberIn, wideIn, droppedIn, namedIn, Made, MadeBy}
+use Rattle.rows.specs.Run.{bytes, twentyBits, readDisp, readInto, dispAt, immAt, withDisp, withImm, andThen, judged, past, renamed, refusal, run, runRow, begun, decodeBy}
+use Rattle.rows.specs.Spans.{Source, read, twenty, Spans, follow, spansOf, dispNext, immNext, condNext, numberIn, wideIn, droppedIn, partsIn, partIn, namedIn, Made, MadeBy}
 
 -- the numbers read so far stand at the spans so far; the last naming is the opcode's
 module _ (bs : List ℕ) (number : ℕ) (o : Opcode) where
@@ -27,6 +29,7 @@ module _ (bs : List ℕ) (number : ℕ) (o : Opcode) where
     early : s .first ≡ numberIn bs (z .early)
     opcode : namedIn bs o (z .naming) ≡ named (f .opcode)
     dropped : s .dropped ≡ droppedIn bs (z .wide)
+    parts : s .parts ≡ partsIn z
 
   -- of a list of reads: where it accepts, the record was made at its spans, and none of its own refusals was met
   abbrev Goes : List Read → Type 0
@@ -47,17 +50,18 @@ module _ (bs : List ℕ) (number : ℕ) (o : Opcode) where
             early = h .short;
             opcode = h .opcode;
             dropped = h .dropped;
+            parts = λ i. dispAt (h .taken i) n (h .parts i);
           })
       by false false = λ k. absurd (omega arith)
 
   -- a number for imm_wide, from a source of its own
   imm-goes : (n : ℕ) (kept : ℕ → ℕ) (lost : ℕ → Bool) (source : ℕ → Source)
       → ((p : ℕ) → kept (bytes bs p n) ≡ wideIn bs number (source p)) → ((p : ℕ) → lost (bytes bs p n) ≡ droppedIn bs (source p))
-      → (rs : List Read) → Goes rs → (f : Face) (s : Seen) (z : Spans) → SoFar z f s
+      → ((p : ℕ) → part p n ≡ partIn (source p)) → (rs : List Read) → Goes rs → (f : Face) (s : Seen) (z : Spans) → SoFar z f s
       → andThen bs (readInto n (λ v. withImm n (kept v) (lost v)) bs s) (run rs bs f) .refusal ≡ 0
       → Made bs number o f (follow rs (immNext (source (z .length)) n z)) (andThen bs (readInto n (λ v. withImm n (kept v) (lost v)) bs s) (run rs bs f) .inst) × (fate rs ≡ 0)
   unfolding readInto
-  imm-goes n kept lost source wide dropped rs ih f s z h = by (leb (s .taken + n) (length bs))
+  imm-goes n kept lost source wide dropped place rs ih f s z h = by (leb (s .taken + n) (length bs))
     where
       after : Seen
       after = let v = bytes bs (s .taken) n in withImm n (kept v) (lost v) s
@@ -72,6 +76,7 @@ module _ (bs : List ℕ) (number : ℕ) (o : Opcode) where
             early = h .early;
             opcode = h .opcode;
             dropped = ap (λ k. lost (bytes bs k n)) (h .taken) ∙ dropped (z .length);
+            parts = (λ i. immAt (h .taken i) n (h .parts i)) ∙ ap (λ p. record { «imm_wide» = p; dispabs = z .short; first = z .early }) (place (z .length));
           })
       by false = λ k. absurd (omega arith)
 
@@ -90,6 +95,7 @@ module _ (bs : List ℕ) (number : ℕ) (o : Opcode) where
     op2 = d .op2;
     marked = d .marked;
     dropped = d .dropped;
+    parts = d .parts;
   }
 
   cond-goes : (rs : List Read) → Goes rs → Goes (cond ∷ rs)
@@ -108,6 +114,7 @@ module _ (bs : List ℕ) (number : ℕ) (o : Opcode) where
             early = h .early;
             opcode = ap (λ n. condOf (getD bs n 0)) (sym (h .taken)) ∙ e;
             dropped = h .dropped;
+            parts = h .parts;
           }) k
           in
           (face-kept p f _ _ (d .0), d .1)
@@ -130,19 +137,20 @@ module _ (bs : List ℕ) (number : ℕ) (o : Opcode) where
       op2 = refl;
       marked = refl;
       dropped = h .dropped;
+      parts = h .parts;
     },
     refl,
   )
   goes (num (disp n) ∷ rs) f s z h k = disp-goes n rs (goes rs) f s z h k
-  goes (num (imm n) ∷ rs) f s z h k = imm-goes n (λ v. v % 256 ^ n) (λ v. false) (λ p. read (span p n)) (λ p. refl) (λ p. refl) rs (goes rs) f s z h k
-  goes (num imm20 ∷ rs) f s z h k = imm-goes 3 (λ v. v % twentyBits) (leb twentyBits) twenty (λ p. refl) (λ p. refl) rs (goes rs) f s z h k
+  goes (num (imm n) ∷ rs) f s z h k = imm-goes n (λ v. v % 256 ^ n) (λ v. false) (λ p. read (part p n)) (λ p. refl) (λ p. refl) (λ p. refl) rs (goes rs) f s z h k
+  goes (num imm20 ∷ rs) f s z h k = imm-goes 3 (λ v. v % twentyBits) (leb twentyBits) twenty (λ p. refl) (λ p. refl) (λ p. refl) rs (goes rs) f s z h k
   goes (cond ∷ rs) f s z h k = cond-goes rs (goes rs) f s z h k
   goes (stop InvalidOpcode ∷ rs) f s z h k = absurd (omega arith)
   goes (stop InvalidOperand ∷ rs) f s z h k = absurd (omega arith)
 
 row-goes : (w : Row) (bs : List ℕ) → runRow w bs .refusal ≡ 0 → MadeBy w bs (runRow w bs .inst) × (fate (w .reads) ≡ 0)
 unfolding runRow spansOf
-row-goes w bs = goes bs (w .number) (w .face .opcode) (w .reads) (w .face) (begun (w .number)) _ (record { taken = refl; wide = refl; short = refl; early = refl; opcode = refl; dropped = refl })
+row-goes w bs = goes bs (w .number) (w .face .opcode) (w .reads) (w .face) (begun (w .number)) _ (record { taken = refl; wide = refl; short = refl; early = refl; opcode = refl; dropped = refl; parts = refl })
 
 -- what is accepted has a first byte that is known and a row that does not refuse, and was made by that row
 pub record Accepted (t : Table) (a b : ℕ) (bs : List ℕ) (r : Record) : Type 0 where

@@ -7,6 +7,7 @@ pub mod Fate
 pub mod Sizes
 pub mod All
 pub mod Spans
+pub mod Parts
 pub mod Agree
 pub mod Lists
 pub mod steps

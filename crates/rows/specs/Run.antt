@@ -12,6 +12,8 @@ use Rattle.record.specs.declared.Operand.{Operand}
 use Rattle.record.specs.declared.Operand.the-variants.{Nothing}
 use Rattle.laws.specs.Choice.{pick}
 use Rattle.record.specs.Blank.{blank}
+use Rattle.record.specs.Parts.{part, noParts}
+use Rattle.record.specs.declared.Parts.{Parts}
 use Rattle.record.specs.declared.Seen.{Seen}
 use Rattle.record.specs.declared.Got.{Got}
 use Rattle.record.specs.declared.Got.the-variants.{On, Short}
@@ -25,13 +27,23 @@ bytes bs p zero = 0
 bytes bs p (suc zero) = getD bs p 0
 bytes bs p (suc (suc n)) = getD bs p 0 + 256 * bytes bs (p + 1) (suc n)
 
+-- request A5: the parts once n bytes at a place were read for a displacement, which first takes over where a later one overwrites it
+abbrev pub dispAt : ℕ → ℕ → Parts → Parts
+dispAt p n q = record { «imm_wide» = q .«imm_wide»; dispabs = part p n; first = q .dispabs }
+
+-- or for imm_wide
+abbrev pub immAt : ℕ → ℕ → Parts → Parts
+immAt p n q = record { «imm_wide» = part p n; dispabs = q .dispabs; first = q .first }
+
 -- a displacement of n bytes: where it overwrites an earlier one, first keeps that
 abbrev pub withDisp : ℕ → ℕ → Seen → Seen
-withDisp n v s = record { «imm_wide» = s .«imm_wide»; dispabs = v; first = s .dispabs; dropped = s .dropped; taken = s .taken + n }
+withDisp n v s =
+    record { «imm_wide» = s .«imm_wide»; dispabs = v; first = s .dispabs; dropped = s .dropped; parts = dispAt (s .taken) n (s .parts); taken = s .taken + n }
 
 -- a number of n bytes for imm_wide, and whether bits of it were dropped
 abbrev pub withImm : ℕ → ℕ → Bool → Seen → Seen
-withImm n v d s = record { «imm_wide» = v; dispabs = s .dispabs; first = s .first; dropped = d; taken = s .taken + n }
+withImm n v d s =
+    record { «imm_wide» = v; dispabs = s .dispabs; first = s .first; dropped = d; parts = immAt (s .taken) n (s .parts); taken = s .taken + n }
 
 -- n bytes are read and passed on, if they are there
 unfoldable pub readInto : ℕ → (ℕ → Seen → Seen) → List ℕ → Seen → Got
@@ -74,6 +86,7 @@ accepted o z w a b m s = record {
     op2 = Nothing;
     marked = m;
     dropped = s .dropped;
+    parts = s .parts;
   };
   taken = s .taken;
   refusal = 0;
@@ -89,7 +102,7 @@ andThen bs (On s) k = k s
 andThen bs Short k = refusal 1 (length bs)
 
 abbrev pub past : Seen → Seen
-past s = record { «imm_wide» = s .«imm_wide»; dispabs = s .dispabs; first = s .first; dropped = s .dropped; taken = s .taken + 1 }
+past s = record { «imm_wide» = s .«imm_wide»; dispabs = s .dispabs; first = s .first; dropped = s .dropped; parts = s .parts; taken = s .taken + 1 }
 
 abbrev pub renamed : Opcode → Face → Face
 renamed o f = record { opcode = o; size = f .size; width = f .width; op0 = f .op0; op1 = f .op1; marked = f .marked }
@@ -108,7 +121,7 @@ run (stop e ∷ rs) bs f s = refusal (refusalNo e) (s .taken)
 
 -- two bytes were taken
 abbrev pub begun : ℕ → Seen
-begun v = record { «imm_wide» = v; dispabs = 0; first = 0; dropped = false; taken = 2 }
+begun v = record { «imm_wide» = v; dispabs = 0; first = 0; dropped = false; parts = noParts; taken = 2 }
 
 unfoldable pub runRow : Row → List ℕ → Answer
 runRow r bs = run (r .reads) bs (r .face) (begun (r .number))

@@ -8,23 +8,18 @@ use lib.ListN.{getD}
 use Rattle.laws.specs.Choice.{pick}
 use Rattle.record.specs.declared.Opcode.{Opcode}
 use Rattle.record.specs.declared.Operand.the-variants.{Nothing}
+use Rattle.record.specs.declared.Part.{Part}
+use Rattle.record.specs.declared.Parts.{Parts}
 use Rattle.record.specs.declared.Record.{Record}
+use Rattle.record.specs.Parts.{part, noPart}
 use Rattle.rows.specs.Row.{disp, imm, imm20, Read, num, cond, stop, Condition, named, Face, Row}
 use Rattle.rows.specs.Codes.{condOf}
 use Rattle.rows.specs.Run.{bytes, twentyBits}
 
--- from which byte on, in how many bytes; no bytes if nothing was read
-pub record Span : Type 0 where
-  pub from : ℕ
-  pub count : ℕ
-
-abbrev pub span : ℕ → ℕ → Span
-span a n = record { from = a; count = n }
-
 -- the number in imm_wide is part of the code, or was read and kept whole, or was read from the three bytes at a place and kept to 20 bits
 pub data Source : Type 0 where
   code : Source
-  read : Span → Source
+  read : Part → Source
   twenty : ℕ → Source
 
 -- the row names the opcode, or the condition byte at a place does
@@ -35,17 +30,17 @@ pub data Naming : Type 0 where
 -- where imm_wide, dispabs and first come from, what names the opcode, and the length
 pub record Spans : Type 0 where
   pub wide : Source
-  pub short : Span
-  pub early : Span
+  pub short : Part
+  pub early : Part
   pub naming : Naming
   pub length : ℕ
 
-abbrev pub spans : Source → Span → Span → Naming → ℕ → Spans
+abbrev pub spans : Source → Part → Part → Naming → ℕ → Spans
 spans w s e o l = record { wide = w; short = s; early = e; naming = o; length = l }
 
 -- a later displacement takes dispabs, and the earlier one is kept in first
 abbrev pub dispNext : ℕ → Spans → Spans
-dispNext n z = spans (z .wide) (span (z .length) n) (z .short) (z .naming) (z .length + n)
+dispNext n z = spans (z .wide) (part (z .length) n) (z .short) (z .naming) (z .length + n)
 
 abbrev pub immNext : Source → ℕ → Spans → Spans
 immNext source n z = spans source (z .short) (z .early) (z .naming) (z .length + n)
@@ -56,7 +51,7 @@ condNext z = spans (z .wide) (z .short) (z .early) (byByte (z .length)) (z .leng
 unfoldable pub follow : List Read → Spans → Spans
 follow [] z = z
 follow (num (disp n) ∷ rs) z = follow rs (pick (eqb n 0) z (dispNext n z))
-follow (num (imm n) ∷ rs) z = follow rs (immNext (read (span (z .length) n)) n z)
+follow (num (imm n) ∷ rs) z = follow rs (immNext (read (part (z .length) n)) n z)
 follow (num imm20 ∷ rs) z = follow rs (immNext (twenty (z .length)) 3 z)
 follow (cond ∷ rs) z = follow rs (condNext z)
 follow (stop e ∷ rs) z = z
@@ -64,28 +59,37 @@ follow (stop e ∷ rs) z = z
 -- two bytes are the code
 unfoldable pub spansOf : Row → Spans
 unfolding follow
-spansOf r = follow (r .reads) (spans code (span 0 0) (span 0 0) byRow 2)
+spansOf r = follow (r .reads) (spans code noPart noPart byRow 2)
 
--- the number that stands at a span, low byte first
-abbrev pub numberIn : List ℕ → Span → ℕ
-numberIn bs s = bytes bs (s .from) (s .count)
+-- the number that stands at a part, low byte first
+abbrev pub numberIn : List ℕ → Part → ℕ
+numberIn bs p = bytes bs (p .offset) (p .width)
 
 abbrev pub wideIn : List ℕ → ℕ → Source → ℕ
 wideIn bs number code = number
-wideIn bs number (read s) = numberIn bs s % 256 ^ s .count
+wideIn bs number (read p) = numberIn bs p % 256 ^ p .width
 wideIn bs number (twenty p) = bytes bs p 3 % twentyBits
 
 -- request A6: of a 20-bit number alone bits may be dropped
 abbrev pub droppedIn : List ℕ → Source → Bool
 droppedIn bs code = false
-droppedIn bs (read s) = false
+droppedIn bs (read p) = false
 droppedIn bs (twenty p) = leb twentyBits (bytes bs p 3)
+
+-- request A5: where each number was read, if it was
+abbrev pub partIn : Source → Part
+partIn code = noPart
+partIn (read p) = p
+partIn (twenty p) = part p 3
+
+abbrev pub partsIn : Spans → Parts
+partsIn z = record { «imm_wide» = partIn (z .wide); dispabs = z .short; first = z .early }
 
 abbrev pub namedIn : List ℕ → Opcode → Naming → Condition
 namedIn bs o byRow = named o
 namedIn bs o (byByte p) = condOf (getD bs p 0)
 
--- a record made of bytes: the names of a face, whose opcode is o unless a byte names another, and the numbers that stand at the spans
+-- a record made of bytes: the names of a face, whose opcode is o unless a byte names another, and the numbers that stand at the row's parts
 pub record Made (bs : List ℕ) (number : ℕ) (o : Opcode) (f : Face) (z : Spans) (r : Record) : Type 0 where
   pub length : r .length ≡ z .length
   pub «imm_wide» : r .«imm_wide» ≡ wideIn bs number (z .wide)
@@ -99,6 +103,7 @@ pub record Made (bs : List ℕ) (number : ℕ) (o : Opcode) (f : Face) (z : Span
   pub op2 : r .op2 ≡ Nothing
   pub marked : r .marked ≡ f .marked
   pub dropped : r .dropped ≡ droppedIn bs (z .wide)
+  pub parts : r .parts ≡ partsIn z
 
 -- by a row
 abbrev pub MadeBy : Row → List ℕ → Record → Type 0

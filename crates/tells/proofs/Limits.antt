@@ -30,26 +30,26 @@ use Rattle.encode_rules.proofs.Bools.{picked}
 -- what the number in a field is below, by where it was read; a number that is part of the code is itself
 abbrev wideLimit : ℕ → Source → ℕ
 wideLimit number code = suc number
-wideLimit number (read s) = 256 ^ s .count
+wideLimit number (read s) = 256 ^ s .width
 wideLimit number (twenty p) = twentyBits
 
 abbrev limit : ℕ → Spans → Field → ℕ
 limit number z nowhere = 1
 limit number z wide = wideLimit number (z .wide)
-limit number z short = 256 ^ z .short .count
-limit number z early = 256 ^ z .early .count
+limit number z short = 256 ^ z .short .width
+limit number z early = 256 ^ z .early .width
 
 module _ (bs : List ℕ) (h : Bytes bs) (number : ℕ) where
   wide-below : (q : Source) → wideIn bs number q < wideLimit number q
   wide-below code = omega arith
-  wide-below (read s) = let small = bytes-small (s .count) (s .from) bs h in subst (λ v. v < 256 ^ s .count) (sym (mod-eq-of-lt small)) small
+  wide-below (read s) = let small = bytes-small (s .width) (s .offset) bs h in subst (λ v. v < 256 ^ s .width) (sym (mod-eq-of-lt small)) small
   wide-below (twenty p) = omega arith
 
   below : (o : Opcode) (f : Face) (z : Spans) (r : Record) → Made bs number o f z r → (x : Field) → valueOf x r < limit number z x
   below o f z r m nowhere = omega arith
   below o f z r m wide = subst (λ v. v < wideLimit number (z .wide)) (sym (m .«imm_wide»)) (wide-below (z .wide))
-  below o f z r m short = subst (λ v. v < 256 ^ z .short .count) (sym (m .dispabs)) (bytes-small (z .short .count) (z .short .from) bs h)
-  below o f z r m early = subst (λ v. v < 256 ^ z .early .count) (sym (m .first)) (bytes-small (z .early .count) (z .early .from) bs h)
+  below o f z r m short = subst (λ v. v < 256 ^ z .short .width) (sym (m .dispabs)) (bytes-small (z .short .width) (z .short .offset) bs h)
+  below o f z r m early = subst (λ v. v < 256 ^ z .early .width) (sym (m .first)) (bytes-small (z .early .width) (z .early .offset) bs h)
 
 -- both operands of a row, by digits
 pub fullb : Row → Bool

@@ -13,6 +13,7 @@ use Rattle.record.specs.Numbers.{opcodeNo, sizeNo, widthNo, operandNo}
 use Rattle.record.specs.declared.Key.{Key}
 use Rattle.record.specs.declared.fields.Field.{Field}
 use Rattle.record.specs.declared.fields.Field.the-variants.{Nowhere as nowhere, Wide as wide, Short as short, Early as early}
+use Rattle.record.specs.Parts.{noParts}
 use Rattle.record.specs.Same.{sameName, fieldOf, key}
 use Rattle.rows.specs.Row.{disp, imm, imm20, Read, num, cond, stop, Condition, named, unnamed, Face, Row, Table}
 use Rattle.rows.specs.Codes.{condOf}
@@ -110,6 +111,7 @@ aim f k = record {
   op2 = Nothing;
   marked = false;
   dropped = false;
+  parts = noParts;
 }
 
 abbrev pub other : Bool → Bool

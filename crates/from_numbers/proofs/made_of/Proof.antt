@@ -9,6 +9,7 @@ use Rattle.record.specs.declared.Opcode.{Opcode}
 use Rattle.record.specs.declared.Size.{Size}
 use Rattle.record.specs.declared.Width.{Width}
 use Rattle.record.specs.declared.Operand.{Operand}
+use Rattle.record.specs.Parts.{noParts}
 use Rattle.from_numbers.proofs.made_of.Statement.{statement}
 use Rattle.from_numbers.proofs.made_of.Tie as tie
 
@@ -26,6 +27,7 @@ made i d f o z w p q r = record {
   op2 = r;
   marked = false;
   dropped = false;
+  parts = noParts;
 }
 
 -- equal names make equal records

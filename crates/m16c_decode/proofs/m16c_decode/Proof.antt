@@ -1,9 +1,10 @@
 -- `m16c_decode::m16c_decode` meets its contract.
 -- Assumes nothing.
+use Prim.Native.Nat.{ℕ, _<_}
 use mathlib.Core.Path.{ap, _∙_}
 use mathlib.Core.List.{_++_}
 use native.Mathlib.Omega.{arith}
-use lib.ListN.{drop}
+use lib.ListN.{getD, drop}
 use borrow.Author.Tests.{lt-ltb, le-ltb}
 use borrow.Author.Needs.{needs}
 use Rattle.m16c_decode.specs.Decoded.{decoded, entries, numbersOf}
@@ -16,9 +17,11 @@ unfolding decoded
 returns c = record { returned = rw (lt-ltb _ entries (c .if1 .taken)); kept = rw (lt-ltb _ entries (c .if1 .taken)) }
 
 deliver-requires : tie.Need-deliver-requires
-deliver-requires c κs = let t = small (c .before .before .before .before .before .args .image .now)
-    (c .before .before .before .before .before .args .at) (λ k. omega (arith, c .before .before .before .before .shared-slice-known .given k)) in
-    let l = short (c .before .before .before .before .before .args .image .now) (c .before .before .before .before .before .args .at) in
+deliver-requires c κs =
+    let start = c .before .before .before .before .before .args in
+    let byte : (k : ℕ) → getD (start .image .now) k 0 < 256 = λ k. omega (arith, c .before .before .before .before .shared-slice-known .given k) in
+    let t = small (start .image .now) (start .at) byte in
+    let l = short (start .image .now) (start .at) in
     let e = c .before .decode .ensures in
     (c .before .before .if1 .left, rw e t, rw e (omega arith))
 

@@ -16,6 +16,9 @@ agrees-requires-3 c κs = rw (c .enum-told2 .given .1) at (c .before .before .be
 agrees-requires-4 : tie.Need-agrees-requires-4
 agrees-requires-4 c κs = rw (c .enum-told3 .given .1) at (c .before .before .before .pre)
 
+agrees-requires-5 : tie.Need-agrees-requires-5
+agrees-requires-5 c κs = rw (c .enum-told4 .given .1) at (c .before .before .before .pre)
+
 returns : tie.Need-returns
 returns c = rw (c .before .enum-told .given .1) (c .agrees .ensures)
 
@@ -28,8 +31,11 @@ returns-3 c = rw (c .before .enum-told2 .given .1) (c .agrees3 .ensures)
 returns-4 : tie.Need-returns-4
 returns-4 c = rw (c .before .enum-told3 .given .1) (c .agrees4 .ensures)
 
+returns-5 : tie.Need-returns-5
+returns-5 c = rw (c .before .enum-told4 .given .1) (c .agrees5 .ensures)
+
 pub agrees-spec : {M : Type 1} → statement M
 agrees-spec =
     tie.close
     (tie.spec (λ c. search needs) agrees-requires (λ c. search needs) agrees-requires-2 (λ c. search needs) agrees-requires-3 (λ c. search needs) agrees-requires-4
-    returns returns-2 returns-3 returns-4)
+    (λ c. search needs) agrees-requires-5 returns returns-2 returns-3 returns-4 returns-5)

@@ -1,8 +1,9 @@
--- A row put as the manual puts a code, by its names and spans, and when the two say the same.
+-- A row put as the manual puts a code, by its names and parts, and when the two say the same.
 use Prim.Native.Nat.{ℕ}
 use mathlib.Core.Path.{_≡_}
 use lib.Dec.{T}
 use Rattle.laws.specs.Choice.{pick}
+use Rattle.record.specs.declared.Part.{Part}
 use Rattle.record.specs.declared.Operand.{Operand}
 use Rattle.record.specs.declared.Operand.the-variants.{Nothing}
 use Rattle.record.specs.declared.fields.Field.{Field}
@@ -10,12 +11,12 @@ use Rattle.record.specs.declared.fields.Field.the-variants.{Nowhere as nowhere,
 use Rattle.record.specs.Same.{sameName, fieldOf, field0, field1}
 use Rattle.manual.specs.Meaning.{Suffix, Spot, nothing, plain, behind, within, Meaning}
 use Rattle.rows.specs.Row.{Row}
-use Rattle.rows.specs.Spans.{Span, Source, code, read, twenty, spansOf}
+use Rattle.rows.specs.Spans.{Source, code, read, twenty, spansOf}
 use Rattle.rows.specs.Agree.{inCode, recorded, sizeFits}
 
--- an operand whose number stands at a span; imm_wide may hold a number of the code
-abbrev pub spotAt : Operand → Span → Spot
-spotAt a s = behind a (s .from) (s .count)
+-- an operand whose number stands at a part; imm_wide may hold a number of the code
+abbrev pub spotAt : Operand → Part → Spot
+spotAt a s = behind a (s .offset) (s .width)
 
 abbrev pub spotWide : Operand → ℕ → Source → Spot
 spotWide a number code = within a (inCode a number)

@@ -11,6 +11,7 @@ use Rattle.record.specs.declared.Size.the-variants as size
 use Rattle.record.specs.declared.Width.{Width}
 use Rattle.record.specs.declared.Width.the-variants.{None, B, W}
 use Rattle.record.specs.Numbers.{opcodeNo, sizeNo, widthNo, operandNo}
+use Rattle.record.specs.Parts.{noParts}
 use Rattle.record.specs.Same.{field0, valueOf}
 use Rattle.rows.specs.Row.{Row}
 use Rattle.rows.specs.Codes.{condOf}
@@ -50,7 +51,7 @@ stampOf r =
 abbrev pub unread : Row → Record
 unread w =
     accepted (w .face .opcode) (w .face .size) (w .face .width) (w .face .op0) (w .face .op1) (w .face .marked)
-    (record { «imm_wide» = w .number; dispabs = 0; first = 0; dropped = false; taken = 2 + reach (w .reads) }) .inst
+    (record { «imm_wide» = w .number; dispabs = 0; first = 0; dropped = false; parts = noParts; taken = 2 + reach (w .reads) }) .inst
 
 -- the stamp of a code
 unfoldable pub codeStamp : ℕ → ℕ → ℕ

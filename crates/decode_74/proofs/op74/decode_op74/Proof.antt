@@ -4,8 +4,10 @@ use Prim.Native.Nat.{_/_, _%_}
 use mathlib.Core.Bool.{false}
 use mathlib.Core.Path.{_≡_, refl, sym, _∙_}
 use native.Mathlib.Omega.{arith}
+use denote.Ref.{now}
 use borrow.Author.Needs.{needs}
 use Rattle.rows.specs.Rows.{row74}
+use Rattle.readers.proofs.Told.{near, first, behind-general}
 use Rattle.rows.proofs.Steps.{ends, goes, stops, done}
 use Rattle.rows.specs.Codes.{nameG}
 use Rattle.rows.specs.Run.{runRow}
@@ -46,30 +48,30 @@ returns-2 : tie.Need-returns-2
 unfolding runRow table74
 returns-2 c = let g = c .before .before .before .before .before .before .before .before .before in
     rw (tabled (start g), not-stopped g, c .before .if2 .taken)
-    (goes _ _ _ _ (g .general .ensures) _ (c .before .before .before .before .before .before .before .s .given .1)
+    (goes _ _ _ _ (first _ _ (g .general .ensures)) _ (c .before .before .before .before .before .before .before .s .given .1)
     (behind (rest g) _ _ _
-    (goes _ _ _ _ (c .before .before .before .before .before .rest-74 .ensures) _ (c .before .before .before .t .given .1)
+    (goes _ _ _ _ (near _ _ _ (behind-general (start g .args .b % 16) (now (start g .args .bs)) (g .general .ensures) (c .before .before .before .before .before .before .before .s .given .1)) (c .before .before .before .before .before .rest-74 .ensures)) _ (c .before .before .before .t .given .1)
     (done _ _ _ (c .accept .ensures) refl (g .before .before .size-74 .ensures) (g .before .width-of .ensures) (name-is g) (other-is g) refl))))
 
 returns-3 : tie.Need-returns-3
 unfolding runRow table74
 returns-3 c = let g = c .before .before .before in
-    rw (tabled (start g), not-stopped g) (ends _ _ _ _ (g .general .ensures) _ (c .before .enum-told .given .1) (c .refuse2 .ensures))
+    rw (tabled (start g), not-stopped g) (ends _ _ _ _ (first _ _ (g .general .ensures)) _ (c .before .enum-told .given .1) (c .refuse2 .ensures))
 
 returns-4 : tie.Need-returns-4
 unfolding runRow table74
 returns-4 c = let g = c .before .before .before .before .before .before .before in
     rw (tabled (start g), not-stopped g)
-    (goes _ _ _ _ (g .general .ensures) _ (c .before .before .before .before .before .s .given .1)
-    (behind (rest g) _ _ _ (ends _ _ _ _ (c .before .before .before .rest-74 .ensures) _ (c .before .enum-told2 .given .1) (c .refuse3 .ensures))))
+    (goes _ _ _ _ (first _ _ (g .general .ensures)) _ (c .before .before .before .before .before .s .given .1)
+    (behind (rest g) _ _ _ (ends _ _ _ _ (near _ _ _ (behind-general (start g .args .b % 16) (now (start g .args .bs)) (g .general .ensures) (c .before .before .before .before .before .s .given .1)) (c .before .before .before .rest-74 .ensures)) _ (c .before .enum-told2 .given .1) (c .refuse3 .ensures))))
 
 returns-5 : tie.Need-returns-5
 unfolding runRow table74
 returns-5 c = let g = c .before .before .before .before .before .before .before .before .before in
     rw (tabled (start g), not-stopped g, c .before .if2 .left)
-    (goes _ _ _ _ (g .general .ensures) _ (c .before .before .before .before .before .before .before .s .given .1)
+    (goes _ _ _ _ (first _ _ (g .general .ensures)) _ (c .before .before .before .before .before .before .before .s .given .1)
     (behind (rest g) _ _ _
-    (goes _ _ _ _ (c .before .before .before .before .before .rest-74 .ensures) _ (c .before .before .before .t .given .1)
+    (goes _ _ _ _ (near _ _ _ (behind-general (start g .args .b % 16) (now (start g .args .bs)) (g .general .ensures) (c .before .before .before .before .before .before .before .s .given .1)) (c .before .before .before .before .before .rest-74 .ensures)) _ (c .before .before .before .t .given .1)
     (done _ _ _ (c .accept2 .ensures) refl (g .before .before .size-74 .ensures) (g .before .width-of .ensures) (other-is g) (name-is g) refl))))
 
 pub decode-op74-spec : {M : Type 1} → statement M

@@ -2,7 +2,7 @@
 -- Assumes nothing.
 use borrow.Author.Tests.{lt-ltb, le-ltb, eq-eqb, ne-eqb}
 use borrow.Author.Needs.{needs}
-use Rattle.rows.proofs.Reading.{none}
+use Rattle.readers.proofs.Told.{none}
 use Rattle.decode_74.proofs.op74.rest_74.Statement.{statement}
 use Rattle.decode_74.proofs.op74.rest_74.Tie as tie
 

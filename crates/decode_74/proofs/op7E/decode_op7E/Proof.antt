@@ -5,6 +5,7 @@ use mathlib.Core.Path.{_≡_, refl}
 use native.Mathlib.Omega.{arith}
 use borrow.Author.Tests.{le-leb, lt-leb, ne-eqb}
 use borrow.Author.Needs.{needs}
+use Rattle.readers.proofs.Told.{first}
 use Rattle.rows.proofs.Steps.{ends, goes, stops, done}
 use Rattle.rows.specs.Row.{InvalidOpcode}
 use Rattle.rows.specs.Rows.{row, row7E}
@@ -27,18 +28,18 @@ returns-2 : tie.Need-returns-2
 unfolding runRow row
 returns-2 c = let t = c .before .before .before .before .before in
     rw (tabled (start t), lt-leb _ _ (t .before .before .before .if1 .left), c .before .if2 .taken)
-    (goes _ _ _ _ (t .bit .ensures) _ (c .before .before .before .s .given .1) (operand-named _ _ _ (c .conditional .ensures) (t .before .before .bit-name .ensures)))
+    (goes _ _ _ _ (first _ _ (t .bit .ensures)) _ (c .before .before .before .s .given .1) (operand-named _ _ _ (c .conditional .ensures) (t .before .before .bit-name .ensures)))
 
 returns-3 : tie.Need-returns-3
 unfolding runRow row
 returns-3 c = let t = c .before .before .before in
-    rw (tabled (start t), lt-leb _ _ (t .before .before .before .if1 .left)) (ends _ _ _ _ (t .bit .ensures) _ (c .before .enum-told .given .1) (c .refuse2 .ensures))
+    rw (tabled (start t), lt-leb _ _ (t .before .before .before .if1 .left)) (ends _ _ _ _ (first _ _ (t .bit .ensures)) _ (c .before .enum-told .given .1) (c .refuse2 .ensures))
 
 returns-4 : tie.Need-returns-4
 unfolding runRow row
 returns-4 c = let t = c .before .before .before .before .before in
     rw (tabled (start t), lt-leb _ _ (t .before .before .before .if1 .left), ne-eqb _ 2 (c .before .if2 .left))
-    (goes _ _ _ _ (t .bit .ensures) _ (c .before .before .before .s .given .1) (done _ _ _ (c .accept .ensures) refl refl refl (t .before .before .bit-name .ensures) refl refl))
+    (goes _ _ _ _ (first _ _ (t .bit .ensures)) _ (c .before .before .before .s .given .1) (done _ _ _ (c .accept .ensures) refl refl refl (t .before .before .bit-name .ensures) refl refl))
 
 pub decode-op7E-spec : {M : Type 1} → statement M
 decode-op7E-spec =

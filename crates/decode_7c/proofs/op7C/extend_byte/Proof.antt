@@ -6,6 +6,7 @@ use borrow.Author.Needs.{needs}
 use Rattle.rows.specs.Row.{InvalidOperand}
 use Rattle.rows.specs.Run.{runRow}
 use Rattle.rows.specs.Rows.{row}
+use Rattle.readers.proofs.Told.{first}
 use Rattle.rows.proofs.Steps.{stops}
 use Rattle.readers.proofs.Finish.{ended}
 use Rattle.decode_7c.proofs.Table7C.{no-exts}
@@ -21,7 +22,7 @@ returns-2 : tie.Need-returns-2
 unfolding runRow row
 returns-2 c = let s = c .before .before .before .before .before .before in
     rw (sym (no-exts (s .args .b % 16) (search needs)) ∙ sym (c .before .before .before .before .has .ensures) ∙ c .before .before .before .if1 .left)
-    (ended _ _ _ _ (c .before .general .ensures) (c .finish .ensures) refl refl refl (c .before .before .general-name .ensures) refl refl)
+    (ended _ _ _ _ (first _ _ (c .before .general .ensures)) (c .finish .ensures) refl refl refl (c .before .before .general-name .ensures) refl refl)
 
 pub extend-byte-spec : {M : Type 1} → statement M
 extend-byte-spec = tie.close (tie.spec (λ c κs. search needs) (λ c κs. search needs) returns (λ c κs. search needs) (λ c κs. search needs) (λ c κs. search needs) returns-2)

@@ -6,6 +6,7 @@ use Rattle.record.specs.declared.Width.the-variants.{B}
 use Rattle.rows.specs.Row.{InvalidOperand}
 use Rattle.rows.specs.Run.{runRow}
 use Rattle.rows.specs.Rows.{row}
+use Rattle.readers.proofs.Told.{first}
 use Rattle.rows.proofs.Steps.{stops}
 use Rattle.readers.proofs.Finish.{ended}
 use Rattle.decode_7c.proofs.op7C.extend_pair.Statement.{statement}
@@ -19,7 +20,7 @@ returns-2 : tie.Need-returns-2
 unfolding runRow row
 returns-2 c =
     rw (sym (c .before .before .before .before .long-refused .ensures) ∙ c .before .before .before .if1 .left)
-    (ended _ _ _ _ (c .before .general .ensures) (c .finish .ensures) refl refl refl (c .before .before .pair-name .ensures B) refl refl)
+    (ended _ _ _ _ (first _ _ (c .before .general .ensures)) (c .finish .ensures) refl refl refl (c .before .before .pair-name .ensures B) refl refl)
 
 pub extend-pair-spec : {M : Type 1} → statement M
 extend-pair-spec =

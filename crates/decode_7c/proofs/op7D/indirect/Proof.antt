@@ -5,6 +5,7 @@ use borrow.Author.Needs.{needs}
 use Rattle.rows.specs.Row.{InvalidOperand}
 use Rattle.rows.specs.Run.{runRow}
 use Rattle.rows.specs.Rows.{row}
+use Rattle.readers.proofs.Told.{first}
 use Rattle.rows.proofs.Steps.{stops}
 use Rattle.readers.proofs.Finish.{ended}
 use Rattle.decode_7c.specs.steps.Op7D.{jumpBy}
@@ -18,7 +19,7 @@ returns c = rw (sym (c .before .before .long-refused .ensures) ∙ c .before .if
 returns-2 : tie.Need-returns-2
 unfolding runRow row jumpBy
 returns-2 c = rw (sym (c .before .before .before .before .before .long-refused .ensures) ∙ c .before .before .before .before .if1 .left)
-    (ended _ _ _ _ (c .before .long .ensures) (c .finish .ensures) (c .before .before .jump-opcode .ensures) refl refl (c .before .before .before .long-name .ensures) refl refl)
+    (ended _ _ _ _ (first _ _ (c .before .long .ensures)) (c .finish .ensures) (c .before .before .jump-opcode .ensures) refl refl (c .before .before .before .long-name .ensures) refl refl)
 
 pub indirect-spec : {M : Type 1} → statement M
 indirect-spec =

@@ -6,6 +6,7 @@ use borrow.Author.Tests.{lt-ltb, le-ltb}
 use borrow.Author.Needs.{needs}
 use Rattle.rows.specs.Run.{runRow}
 use Rattle.rows.specs.Rows.{row}
+use Rattle.readers.proofs.Told.{first}
 use Rattle.rows.proofs.Steps.{stops}
 use Rattle.rows.specs.Row.{InvalidOpcode}
 use Rattle.readers.proofs.Finish.{ended}
@@ -33,7 +34,7 @@ returns-3 c = let s = c .before .before .before .before .before .before .before 
       sym
           (c .before .before .before .before .no-condition .ensures) ∙ c .before .before .before .if2 .left,
     )
-    (ended _ _ _ _ (c .before .imm-byte .ensures) (c .finish .ensures) refl refl refl refl refl refl)
+    (ended _ _ _ _ (first _ _ (c .before .imm-byte .ensures)) (c .finish .ensures) refl refl refl refl refl refl)
 
 pub jump-spec : {M : Type 1} → statement M
 jump-spec =

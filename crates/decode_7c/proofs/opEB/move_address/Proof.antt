@@ -8,6 +8,7 @@ use borrow.Author.Needs.{needs}
 use Rattle.record.specs.declared.Width.the-variants.{W}
 use Rattle.rows.specs.Run.{runRow}
 use Rattle.rows.specs.Rows.{row}
+use Rattle.readers.proofs.Told.{first}
 use Rattle.readers.proofs.Nibble.{named-high}
 use Rattle.readers.proofs.Finish.{ended-before-none}
 use Rattle.decode_7c.proofs.opEB.move_address.Statement.{statement}
@@ -18,7 +19,7 @@ unfolding runRow row
 returns c = let s = c .before .before .before .before .before in
     let h : s .args .b / 16 < 8 = omega arith in
     rw (lt-ltb _ 8 h)
-    (ended-before-none _ _ _ _ (c .before .general .ensures) (c .finish .ensures) refl refl refl (c .before .before .before .general-name .ensures)
+    (ended-before-none _ _ _ _ (first _ _ (c .before .general .ensures)) (c .finish .ensures) refl refl refl (c .before .before .before .general-name .ensures)
     (named-high W (s .args .b) (search needs) (c .before .before .general-name2 .ensures)) refl)
 
 pub move-address-spec : {M : Type 1} → statement M

@@ -3,6 +3,7 @@
 use Prim.Native.Nat.{_%_}
 use mathlib.Core.Path.{refl, sym, _∙_}
 use borrow.Author.Needs.{needs}
+use Rattle.readers.proofs.Told.{first}
 use Rattle.rows.proofs.Steps.{done}
 use Rattle.rows.specs.Run.{runRow}
 use Rattle.rows.specs.Rows.{row}
@@ -18,7 +19,7 @@ unfolding runRow row tableE
 returns c = let t = c .before .before .before .before .before in
     let s = t .before .before .before .before .before in
     rw (tablesE (widthOf (s .args .byte)) (s .args .b % 16) (search needs), sym (c .before .before .before .before .has .ensures) ∙ c .before .before .before .if1 .taken)
-    (ended _ _ _ _ (c .before .immediate .ensures) (c .finish .ensures) refl (t .before .before .size-E .ensures)
+    (ended _ _ _ _ (first _ _ (c .before .immediate .ensures)) (c .finish .ensures) refl (t .before .before .size-E .ensures)
     (t .before .width-of .ensures) (c .before .before .immediate-name .ensures) (t .to-E .ensures) refl)
 
 returns-2 : tie.Need-returns-2

@@ -2,7 +2,7 @@
 -- Assumes nothing.
 use borrow.Author.Tests.{lt-ltb, le-ltb}
 use borrow.Author.Needs.{needs}
-use Rattle.rows.proofs.Reading.{none}
+use Rattle.readers.proofs.Told.{none}
 use Rattle.readers.proofs.general.general.Statement.{statement}
 use Rattle.readers.proofs.general.general.Tie as tie
 

@@ -12,7 +12,7 @@ numbers-in-requires c κs = c .before .pre .formed .long
 returns : tie.Need-returns
 returns c =
     let said = c .before .before .before .numbers-in .ensures in
-    let found = c .before .numbers-of .ensures ∙ ap numbersOf (c .before .before .answer-to .ensures) in
+    let found = c .before .numbers-of .ensures ∙ ap numbersOf (c .before .before .answer-at .ensures) in
     (λ e. sym said ∙ c .same .ensures .0 e ∙ found, λ h. c .same .ensures .1 (said ∙ h ∙ sym found))
 
 pub agrees-spec : {M : Type 1} → statement M

@@ -36,9 +36,32 @@ returns-5 c =
 
 returns-6 : tie.Need-returns-6
 returns-6 c =
-    let g = c .before .before in
+    let n = c .before .before in
+    let g = n .before .before in
     let s = g .before .before in
-    rw (ne-eqb _ 69 (s .before .before .if2 .left), ne-eqb _ 83 (s .if3 .left), ne-eqb _ 71 (g .if4 .left), ne-eqb _ 78 (c .if5 .left))
+    rw (
+      ne-eqb _ 69 (s .before .before .if2 .left),
+      ne-eqb _ 83 (s .if3 .left),
+      ne-eqb _ 71 (g .if4 .left),
+      ne-eqb _ 78 (n .if5 .left),
+      eq-eqb _ 80 (c .if6 .taken),
+    )
+
+returns-7 : tie.Need-returns-7
+returns-7 c =
+    let n = c .before .before in
+    let g = n .before .before in
+    let s = g .before .before in
+    rw (
+      ne-eqb _ 69 (s .before .before .if2 .left),
+      ne-eqb _ 83 (s .if3 .left),
+      ne-eqb _ 71 (g .if4 .left),
+      ne-eqb _ 78 (n .if5 .left),
+      ne-eqb _ 80 (c .if6 .left),
+    )
 
 pub kind-of-spec : {M : Type 1} → statement M
-kind-of-spec = tie.close (tie.spec returns (λ c. search needs) returns-2 (λ c. search needs) returns-3 (λ c. search needs) returns-4 (λ c. search needs) returns-5 returns-6)
+kind-of-spec =
+    tie.close
+    (tie.spec returns (λ c. search needs) returns-2 (λ c. search needs) returns-3 (λ c. search needs) returns-4 (λ c. search needs) returns-5 (λ c. search needs) returns-6
+    returns-7)

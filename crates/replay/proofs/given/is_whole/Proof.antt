@@ -1,10 +1,10 @@
--- `replay::decoding::is_whole` meets its contract.
+-- `replay::given::is_whole` meets its contract.
 -- Assumes nothing.
 use native.Mathlib.Omega.{arith}
 use borrow.Author.Needs.{needs}
 use Rattle.replay.proofs.Answer.{gives, refuted, untold}
-use Rattle.replay.proofs.decoding.is_whole.Statement.{statement}
-use Rattle.replay.proofs.decoding.is_whole.Tie as tie
+use Rattle.replay.proofs.given.is_whole.Statement.{statement}
+use Rattle.replay.proofs.given.is_whole.Tie as tie
 
 digit-at-requires : tie.Need-digit-at-requires
 digit-at-requires c κs = omega (arith, c .before .has .ensures .0 (c .if1 .taken) .long)

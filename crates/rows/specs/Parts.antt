@@ -1,0 +1,63 @@
+-- Request A5: what is asked of the parts of an accepted record, and what stays where the bytes of one part are changed.
+use Prim.Native.Nat.{ℕ, _+_, _/_, _%_, _≤_, _<_}
+use mathlib.Core.Path.{_≡_}
+use mathlib.Core.Bool.{Bool, false}
+use mathlib.Core.List.{List}
+use lib.Dec.{eqb, leb}
+use lib.ListN.{length, getD}
+use Rattle.laws.specs.Choice.{pick}
+use Rattle.record.specs.declared.Part.{Part}
+use Rattle.record.specs.declared.Parts.{Parts}
+use Rattle.record.specs.declared.Record.{Record}
+use Rattle.record.specs.declared.fields.Field.{Field}
+use Rattle.record.specs.declared.fields.Field.the-variants.{Nowhere as nowhere, Wide as wide, Short as short, Early as early}
+use Rattle.record.specs.Parts.{partOf, Inside, Within}
+use Rattle.record.specs.Numbered.{numbered}
+use Rattle.record.specs.Same.{valueOf}
+use Rattle.rows.specs.Run.{twentyBits}
+use Rattle.rows.specs.Spans.{numberIn}
+
+-- "the parts don't overlap, each lies inside the length": and behind the second byte, in an instruction of n bytes
+pub record Laid (n : ℕ) (p : Parts) : Type 0 where
+  pub inside : Inside n p
+  pub behind : (f : Field) (i : ℕ) → Within (partOf f p) i → 2 ≤ i
+  pub apart : (f g : Field) (i : ℕ) → Within (partOf f p) i → Within (partOf g p) i → f ≡ g
+
+-- a width is 1, 2 or 3, or both numbers are 0
+abbrev pub Sized : Part → Type 0
+Sized p = (p .width ≤ 3) × (p .width ≡ 0 → p .offset ≡ 0)
+
+-- what is kept of a number that was read from so many bytes: of three 20 bits, and then the rest is dropped
+abbrev pub keptOf : ℕ → ℕ → ℕ
+keptOf w v = pick (eqb w 3) (v % twentyBits) v
+
+abbrev pub droppedOf : ℕ → ℕ → Bool
+droppedOf w v = pick (eqb w 3) (leb twentyBits v) false
+
+-- "reading those of width above 0 again, 20-bit ones masked, gives the fields"
+abbrev pub ReadAgain : List ℕ → Record → Type 0
+ReadAgain bs r = (f : Field) → 0 < partOf f (r .parts) .width → valueOf f r ≡ keptOf (partOf f (r .parts) .width) (numberIn bs (partOf f (r .parts)))
+
+-- "cover every byte behind the second": a byte is a part's, or the last of 7E 2n, which is the condition byte
+pub data Covered (a b : ℕ) (r : Record) (i : ℕ) : Type 0 where
+  by-part : (f : Field) → Within (partOf f (r .parts)) i → Covered a b r i
+  by-condition : a ≡ 0x7E → b / 16 ≡ 2 → i + 1 ≡ r .length → Covered a b r i
+
+-- all of it, of a record that was decoded from bs, with the first bytes a and b
+pub record Placed (a b : ℕ) (bs : List ℕ) (r : Record) : Type 0 where
+  pub laid : Laid (r .length) (r .parts)
+  pub sized : (f : Field) → Sized (partOf f (r .parts))
+  pub again : ReadAgain bs r
+  pub covered : (i : ℕ) → 2 ≤ i → i < r .length → Covered a b r i
+
+-- the second of two byte strings is the first, but for bytes of a part
+pub record DifferIn (p : Part) (bs cs : List ℕ) : Type 0 where
+  pub long : length cs ≡ length bs
+  pub elsewhere : (i : ℕ) → (Within p i → ⊥) → getD cs i 0 ≡ getD bs i 0
+
+-- "the same record but for that field": v was read into it in place of what it held
+abbrev pub holding : Field → ℕ → Record → Record
+holding nowhere v r = r
+holding wide v r = numbered (keptOf (r .parts .«imm_wide» .width) v) (r .dispabs) (r .first) (droppedOf (r .parts .«imm_wide» .width) v) (r .parts) r
+holding short v r = numbered (r .«imm_wide») v (r .first) (r .dropped) (r .parts) r
+holding early v r = numbered (r .«imm_wide») (r .dispabs) v (r .dropped) (r .parts) r
