@@ -14,7 +14,7 @@ use std::time::Instant;
 use c::{m16c_decode, m16c_encode, m16c_length, m16c_line, m16c_operand_number, m16c_sweep, m16c_sweep_stopping};
 use c::{Decode, Encode, Length, Line, OperandNumber, Sweep};
 use c::{LONGEST_IMAGE, LONGEST_INSTRUCTION, LONGEST_LINE};
-use peer_call::{at_each, nothing_decoded, nothing_encoded, nothing_told, rust_decode, Record, NUMBERS};
+use peer_call::{at_each, nothing_decoded, nothing_encoded, nothing_told, rust_decode, Record, NUMBERS, RUST_NUMBERS};
 use peer_loop::rust_decode_at_each;
 use peer_sweep_call::rust_sweep as rust_sweep_call;
 use peer_sweep_loop::rust_sweep as rust_sweep_loop;
@@ -30,10 +30,9 @@ const ASKED: usize = 0;
 // Where a record has the instruction's length.
 const LENGTH: usize = 10;
 
-// Numbers of a record that the Rust does not have.
+// Of the numbers that the Rust delivers, those that it does not have, and delivers 0 for.
 const FIRST: usize = 9;
 const MARKED: usize = 11;
-const DROPPED: usize = 12;
 
 extern "C" {
     fn syscall(number: i64, first: i64, ...) -> i64;
@@ -387,16 +386,19 @@ fn check_same_work(work: &Workload) -> Result<(), String> {
     work.pieces.iter().try_for_each(|piece| check_sweeping(piece))
 }
 
-/// All deliver the same, but for the three numbers that the Rust has not.
+/// All deliver the same, but for the numbers that the Rust does not have: two of its own are 0, and what stands behind them is left as it
+/// was. The port delivers all.
 fn check_decoding(work: &Workload, place: u32) -> Result<(), String> {
-    let mut rattle = called(m16c_decode, &work.image, place);
-    rattle.1[FIRST] = 0;
-    rattle.1[MARKED] = 0;
-    rattle.1[DROPPED] = 0;
+    let rattle = called(m16c_decode, &work.image, place);
+    let mut wanted = UNDELIVERED;
+    wanted[..RUST_NUMBERS].copy_from_slice(&rattle.1[..RUST_NUMBERS]);
+    wanted[FIRST] = 0;
+    wanted[MARKED] = 0;
     let rust_call = called(rust_decode, &work.image, place);
-    let mut rust_loop = [0; NUMBERS];
+    let mut rust_loop = UNDELIVERED;
     rust_decode_at_each(&work.image, &[place], &mut rust_loop);
-    if rattle != rust_call || rust_loop != rust_call.1 {
+    let all_delivered = !rattle.1[RUST_NUMBERS..].contains(&u32::MAX);
+    if rust_call != (rattle.0, wanted) || rust_loop != wanted || !all_delivered {
         let answers = format!("rattle {rattle:?}\nrust, call {rust_call:?}\nrust, loop {rust_loop:?}");
         return Err(format!("different answers at place {place} of workload {}\n{answers}", work.name));
     }
@@ -513,8 +515,11 @@ fn swept(sweep: Sweep, piece: &[u8]) -> Swept {
     Swept { refusal, count, place, refused, read, starts }
 }
 
+// Stands in a record before it is delivered.
+const UNDELIVERED: Record = [u32::MAX; NUMBERS];
+
 fn called(decode: Decode, image: &[u8], place: u32) -> (u32, Record) {
-    let mut record = [u32::MAX; NUMBERS];
+    let mut record = UNDELIVERED;
     let out = record.as_mut_slice();
     let refusal = unsafe { decode(image.as_ptr(), image.len(), place as usize, out.as_mut_ptr(), out.len()) };
     (refusal, record)

@@ -16,7 +16,7 @@ fn deliver(image: &[u8], at: usize, out: &mut [u32]) -> u32 {
             u32::from(ACCEPTED)
         }
         Err(refusal) => {
-            *record = [0; crate::NUMBERS];
+            *record = [0; crate::RUST_NUMBERS];
             record[0] = reader.taken as u32;
             u32::from(refusal)
         }
@@ -32,9 +32,9 @@ fn width_number(first: u8) -> u32 {
     }
 }
 
-// The Rust has neither the earlier displacement nor the mark, and does not tell of dropped bits: their numbers are 0.
+// The Rust has neither the earlier displacement nor the mark: their numbers are 0.
 #[inline(always)]
-fn numbers(inst: &Instruction, width: u32, taken: usize) -> crate::Record {
+fn numbers(inst: &Instruction, width: u32, taken: usize) -> [u32; crate::RUST_NUMBERS] {
     let (opcode, size) = opcode_and_size_numbers(inst.opcode);
     let operand = |k: usize| u32::from(operand_number(inst.operands[k]));
     [
@@ -50,11 +50,10 @@ fn numbers(inst: &Instruction, width: u32, taken: usize) -> crate::Record {
         0,
         u32::from(inst.length),
         0,
-        0,
     ]
 }
 
-/// The parameters and the answer of the port's `m16c_decode`.
+/// The parameters of the port's `m16c_decode`, and of its answer the refusal and the first twelve numbers.
 ///
 /// # Safety
 /// `image` has `image_len` bytes to read, `out` has `out_len` numbers to write.

@@ -15,9 +15,13 @@ pub use given::rust_sweep;
 
 use core::hint::black_box;
 
-/// How an instruction is delivered: taken, opcode, size, width, three operands, imm_wide, dispabs, first, length, marked, dropped.
-pub const NUMBERS: usize = 13;
+/// How the port delivers an instruction: taken, opcode, size, width, three operands, imm_wide, dispabs, first, length, marked, dropped,
+/// and offset and width of first, of dispabs and of imm_wide.
+pub const NUMBERS: usize = 19;
 pub type Record = [u32; NUMBERS];
+
+/// The Rust delivers the numbers up to marked, and is not charged for what stands behind them, of which it tells nothing.
+pub const RUST_NUMBERS: usize = 12;
 
 /// The loop of every measurement. The boxes keep the compiler from working ahead, and from dropping what nobody reads.
 #[inline(always)]

@@ -6,7 +6,7 @@ use std::collections::HashMap;
 use std::sync::OnceLock;
 
 use crate::operands::{asked_for, settled, Field, WIDTHS};
-use crate::{code_of, expected, ported, CODES, DISPABS, FIELDS, FIRST, IMM_WIDE, OPCODE, OPERANDS, SIZE, TAKEN, WIDTH};
+use crate::{code_of, expected, CODES, DISPABS, FIELDS, FIRST, IMM_WIDE, OPCODE, OPERANDS, SIZE, TAKEN, WIDTH};
 
 pub type Record = [u32; FIELDS];
 
@@ -123,13 +123,12 @@ impl Spelling {
         self
     }
 
-    /// What the Rust decodes the whole string to. `first`, which the Rust does not have, is the port's.
+    /// What the Rust decodes the whole string to.
     fn key(&self) -> Option<Key> {
-        let mut answer = expected(self.bytes());
+        let answer = expected(self.bytes());
         if answer.refusal != 0 || answer.fields[TAKEN] as usize != self.length {
             return None;
         }
-        answer.fields[FIRST] = ported(self.bytes(), 0).fields[FIRST];
         key_of(&answer.fields)
     }
 

@@ -1,6 +1,6 @@
 // The differential run: the port and the Rust on the same bytes, every field that the Rust has.
-// Here are the running, the counting and the decoder's strings; encoder.rs, sweeps.rs, lines.rs, lengths.rs, numbers.rs and
-// replayed.rs have the rest.
+// Here are the running, the counting and the decoder's strings; parts.rs, encoder.rs, sweeps.rs, lines.rs, lengths.rs, numbers.rs
+// and replayed.rs have the rest.
 // usage: differ [--all]
 
 mod brute;
@@ -13,6 +13,8 @@ mod lengths;
 mod lines;
 mod numbers;
 mod operands;
+mod parts;
+mod places;
 mod replayed;
 mod sweeps;
 mod told;
@@ -23,6 +25,9 @@ use std::process::ExitCode;
 use std::sync::atomic::{AtomicUsize, Ordering};
 use std::thread;
 
+use parts::places_of;
+use places::Places;
+
 const THREADS: usize = 2;
 const FIRST_BYTES: [u8; 12] = [0x74, 0x75, 0x76, 0x77, 0x78, 0x79, 0x7A, 0x7B, 0x7C, 0x7D, 0x7E, 0xEB];
 const SEED: u64 = 0x6D31_3663_2031_3938;
@@ -30,13 +35,13 @@ const TOO_LITTLE_ROOM: u32 = 6;
 
 // ---- What is compared
 
-const FIELDS: usize = 13;
+const FIELDS: usize = 19;
 // An encoder wants so many of them; those behind do not count.
 const WANTED: usize = 12;
 #[rustfmt::skip]
 const FIELD_NAMES: [&str; FIELDS] = [
     "taken", "opcode", "size", "width", "operand 0", "operand 1", "operand 2", "imm_wide", "dispabs", "first", "length",
-    "marked", "dropped",
+    "marked", "dropped", "first offset", "first width", "dispabs offset", "dispabs width", "imm_wide offset", "imm_wide width",
 ];
 const TAKEN: usize = 0;
 const OPCODE: usize = 1;
@@ -49,8 +54,8 @@ const FIRST: usize = 9;
 const LENGTH: usize = 10;
 const MARKED: usize = 11;
 const DROPPED: usize = 12;
-// What an accepted answer is free in, because the Rust does not have it, with the greatest number that fits.
-const FREE_FIELDS: [(usize, u32); 2] = [(FIRST, 0xFFFF), (MARKED, 1)];
+// Of `first`, of `dispabs` and of `imm_wide`; the width stands behind each.
+const OFFSETS: [usize; 3] = [13, 15, 17];
 
 #[derive(Clone, PartialEq, Eq)]
 struct Answer {
@@ -58,11 +63,13 @@ struct Answer {
     fields: [u32; FIELDS],
 }
 
-/// What the port has to answer, by the Rust, and by the bytes whether bits were dropped; 0 in the other fields that the Rust does not have.
+/// What the port has to answer: by the Rust; by places.rs where the numbers stand; by the bytes `first` and whether bits were dropped. The
+/// mark, of which none of them tells, is 0.
 fn expected(bytes: &[u8]) -> Answer {
     let rust = oracle::answer(bytes);
     let accepted = rust.refusal == oracle::ACCEPTED;
     let [op0, op1, op2] = rust.operands.map(u32::from);
+    let [first, dispabs, imm_wide] = if accepted { *places_of([bytes[0], bytes[1]]) } else { Places::default() };
     Answer {
         refusal: rust.refusal.into(),
         fields: [
@@ -75,10 +82,16 @@ fn expected(bytes: &[u8]) -> Answer {
             op2,
             rust.imm_wide,
             rust.dispabs.into(),
-            0,
+            first.number(bytes),
             rust.length.into(),
             0,
             u32::from(accepted && reads_20_bits(&rust.operands) && bytes[rust.taken - 1] >= 0x10),
+            first.offset,
+            first.width,
+            dispabs.offset,
+            dispabs.width,
+            imm_wide.offset,
+            imm_wide.width,
         ],
     }
 }
@@ -109,17 +122,20 @@ fn decode_into(image: &[u8], at: usize, out: &mut [u32]) -> u32 {
     unsafe { c::m16c_decode(image.as_ptr(), image.len(), at, out.as_mut_ptr(), out.len()) }
 }
 
-/// The port's answer with 0 in what it is free in.
+/// The port's answer without the mark of an accepted one, if it is 0 or 1: the Rust does not have it.
 fn judged(rust: &Answer, port: &Answer) -> Answer {
     let mut judged = port.clone();
-    if rust.refusal == u32::from(oracle::ACCEPTED) {
-        for (field, greatest) in FREE_FIELDS {
-            if judged.fields[field] <= greatest {
-                judged.fields[field] = 0;
-            }
-        }
+    if rust.refusal == u32::from(oracle::ACCEPTED) && judged.fields[MARKED] <= 1 {
+        judged.fields[MARKED] = 0;
     }
     judged
+}
+
+/// A record for encoders of the numbers that they want. What stands behind these must not count, and is what no record has there.
+fn record_of(wanted: [u32; WANTED]) -> [u32; FIELDS] {
+    let mut record = [UNWRITTEN; FIELDS];
+    record[..WANTED].copy_from_slice(&wanted);
+    record
 }
 
 // ---- Counting, and keeping the first difference
@@ -165,14 +181,14 @@ fn describe(image: &[u8], at: usize, rust: &Answer, port: &Answer) -> String {
     let mut text = format!("place {at} of {}\n", hex(image));
     let mut line = |name: &str, rust: u32, port: u32, same: bool| {
         let sign = if same { ' ' } else { '*' };
-        writeln!(text, "  {sign} {name:10} Rust {rust:8X}   port {port:8X}").unwrap();
+        writeln!(text, "  {sign} {name:15} Rust {rust:8X}   port {port:8X}").unwrap();
     };
     line("refusal", rust.refusal, port.refusal, rust.refusal == port.refusal);
     for (field, name) in FIELD_NAMES.iter().enumerate() {
         let wanted = rust.fields[field];
         line(name, wanted, port.fields[field], wanted == judged.fields[field]);
     }
-    text += "  (in hex; the Rust has no `first`, `marked` and `dropped`: 0 is shown for the first two, and what the bytes say for the third)\n";
+    text += "  (in hex; the Rust has no `marked`: 0 is shown; nor `first`, `dropped`, offsets and widths: what the bytes say is shown)\n";
     text
 }
 
@@ -300,9 +316,9 @@ fn places_in_images(part: usize, tally: &mut Tally) {
     }
 }
 
-// Thirteen numbers are written or none, and none behind them. A part is a code.
+// Nineteen numbers are written or none, and none behind them. A part is a code.
 fn buffers(part: usize, tally: &mut Tally) {
-    const LONGEST_BUFFER: usize = 16;
+    const LONGEST_BUFFER: usize = FIELDS + 3;
     let (first, second) = code_of(part);
     let string = [first, second, 0, 0, 0, 0, 0];
     let answer = ported(&string, 0);
@@ -387,9 +403,10 @@ impl Random {
 
 // ---- Running
 
-const TASKS: [(&str, &[Kind]); 7] = [
+const TASKS: [(&str, &[Kind]); 8] = [
     ("stored answers", replayed::KINDS),
     ("decode", KINDS),
+    ("parts", parts::KINDS),
     ("encode", encoder::KINDS),
     ("sweep", sweeps::KINDS),
     ("line", lines::KINDS),

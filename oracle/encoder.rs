@@ -4,7 +4,7 @@ use std::fmt::Write;
 
 use crate::brute::{self, Record, Spelling};
 use crate::operands;
-use crate::{c, code_of, expected, hex, ported, Kind, Random, Tally, CODES, TOO_LITTLE_ROOM};
+use crate::{c, code_of, expected, hex, ported, record_of, Kind, Random, Tally, CODES, TOO_LITTLE_ROOM};
 use crate::{DROPPED, FIELDS, FIELD_NAMES, MARKED, OPCODE, OPERANDS, SIZE, TAKEN, WANTED, WIDTH};
 
 const NO_STRING: u32 = 5;
@@ -94,7 +94,7 @@ pub fn compare(tally: &mut Tally, record: &[u32], answer: Option<Spelling>, room
 fn fields(record: &[u32]) -> String {
     let mut text = format!("a record of {} numbers\n", record.len());
     for (field, (name, number)) in FIELD_NAMES.iter().zip(record).enumerate() {
-        writeln!(text, "    {name:10} {number:8X}  {}", name_of(field, *number)).unwrap();
+        writeln!(text, "    {name:15} {number:8X}  {}", name_of(field, *number)).unwrap();
     }
     text
 }
@@ -191,6 +191,9 @@ fn near_misses(part: usize, tally: &mut Tally) {
         for _ in 0..1 + random.below(2) {
             change_field(&mut record, &mut random);
         }
+        if random.below(2) == 0 {
+            change_what_stands_behind(&mut record, &mut random);
+        }
         compare_by_brute_force(tally, &record);
     }
 }
@@ -206,10 +209,18 @@ fn made_up(part: usize, tally: &mut Tally) {
     }
 }
 
+/// One of those that an encoder wants.
 fn change_field(record: &mut Record, random: &mut Random) {
-    let field = random.below(FIELDS);
+    let field = random.below(WANTED);
     let another_form = OPERANDS.contains(&field) && random.below(2) == 0;
     record[field] = if another_form { like_operand(record[field], random) } else { any_number(field, random) };
+}
+
+/// The numbers that an encoder does not want.
+fn change_what_stands_behind(record: &mut Record, random: &mut Random) {
+    for number in &mut record[WANTED..] {
+        *number = edge_or_any(random);
+    }
 }
 
 /// Another form on the same base, if there is one, or the operand itself.
@@ -253,7 +264,7 @@ fn edge_or_any(random: &mut Random) -> u32 {
 
 /// Fewer than twelve numbers are no record; more do no harm. A part is a code.
 fn record_lengths(part: usize, tally: &mut Tally) {
-    const MOST: usize = 16;
+    const MOST: usize = FIELDS + 3;
     let (first, second) = code_of(part);
     let record = ported(&[first, second, 0, 0, 0, 0, 0], 0).fields;
     let mut numbers = [0xDEAD_BEEF; MOST];
@@ -300,6 +311,6 @@ fn odd_record(line: &str) -> Option<(Record, Option<Spelling>)> {
     };
     let byte = |k: usize| u8::from_str_radix(digits.get(2 * k..2 * k + 2)?, 16).ok();
     let bytes: Vec<u8> = (0..length as usize).map(byte).collect::<Option<_>>()?;
-    let record = [0, opcode, size, width, op0, op1, op2, imm_wide, dispabs, first, 0, 0, 0];
+    let record = record_of([0, opcode, size, width, op0, op1, op2, imm_wide, dispabs, first, 0, 0]);
     Some((record, (refusal == 0).then(|| Spelling::of(&bytes))))
 }

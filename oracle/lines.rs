@@ -1,8 +1,8 @@
 // The line's part of the differential run: the port's `m16c_line` beside a line put together from what the Rust answers.
 
 use crate::operands::{is_signed, number_of};
-use crate::{c, code_of, expected, hex, ported, twenty_bit_strings, Kind, Random, Tally, CODES, TOO_LITTLE_ROOM};
-use crate::{DROPPED, FIRST, LENGTH, OPCODE, OPERANDS, SIZE, WIDTH};
+use crate::{c, code_of, expected, hex, twenty_bit_strings, Kind, Random, Tally, CODES, TOO_LITTLE_ROOM};
+use crate::{DROPPED, LENGTH, OPCODE, OPERANDS, SIZE, WIDTH};
 
 #[rustfmt::skip]
 pub const KINDS: &[Kind] = &[
@@ -49,17 +49,15 @@ fn with_number(name: &str, number: Option<i64>) -> String {
     format!("{name}={sign}{:0digits$X}", number.unsigned_abs() % 16u64.pow(digits as u32))
 }
 
-/// The line of an accepted place. `first`, which the Rust does not have, is the port's.
-fn line(image: &[u8], at: usize, rust: &[u32]) -> String {
-    let mut record = rust.to_vec();
-    record[FIRST] = ported(image, at).fields[FIRST];
+/// The line of a record at a place.
+fn line(at: usize, record: &[u32]) -> String {
     let width = ["-", "B", "W"][record[WIDTH] as usize];
     let mut text = format!("{:04X} {:X} {width} {}", at % 0x10000, record[LENGTH], oracle::OPCODE_NAMES[record[OPCODE] as usize]);
     if record[SIZE] != 0 {
         text += &format!(".{}", oracle::SIZE_NAMES[record[SIZE] as usize]);
     }
     for (k, field) in OPERANDS.into_iter().enumerate().filter(|(_, field)| record[*field] != 0) {
-        text += &format!(" {}", with_number(oracle::OPERAND_NAMES[record[field] as usize], number_of(&record, k)));
+        text += &format!(" {}", with_number(oracle::OPERAND_NAMES[record[field] as usize], number_of(record, k)));
     }
     if record[DROPPED] != 0 {
         text += " !";
@@ -73,7 +71,7 @@ fn wanted(image: &[u8], at: usize, room: usize) -> Outcome {
     if rust.refusal != 0 {
         return outcome;
     }
-    let line = line(image, at, &rust.fields);
+    let line = line(at, &rust.fields);
     if line.len() > room {
         outcome.refusal = TOO_LITTLE_ROOM;
     } else {

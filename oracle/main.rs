@@ -6,6 +6,8 @@ mod images;
 mod known;
 mod odd;
 mod operands;
+mod placed;
+mod places;
 mod questions;
 mod stored;
 mod told;

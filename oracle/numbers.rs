@@ -4,7 +4,7 @@ use oracle::OPERAND_NAMES;
 
 use crate::encoder::any_number;
 use crate::operands::number_of;
-use crate::{c, Kind, Random, Tally, DISPABS, FIELDS, FIRST, IMM_WIDE, OPERANDS};
+use crate::{c, record_of, Kind, Random, Tally, FIELDS};
 
 const NO_NUMBER: u32 = 5;
 
@@ -34,14 +34,8 @@ fn compare_by_rules(tally: &mut Tally, record: &[u32], k: usize) {
 }
 
 fn record(operands: [usize; 3], imm_wide: u32, dispabs: u32, first: u32) -> [u32; FIELDS] {
-    let mut record = [0; FIELDS];
-    for (field, operand) in OPERANDS.into_iter().zip(operands) {
-        record[field] = operand as u32;
-    }
-    record[IMM_WIDE] = imm_wide;
-    record[DISPABS] = dispabs;
-    record[FIRST] = first;
-    record
+    let [op0, op1, op2] = operands.map(|operand| operand as u32);
+    record_of([0, 0, 0, 0, op0, op1, op2, imm_wide, dispabs, first, 0, 0])
 }
 
 /// A part is operand 0. Three numbers that no two fields share.
@@ -78,7 +72,7 @@ fn made_up(part: usize, tally: &mut Tally) {
 
 /// Fewer than twelve numbers are no record; more do no harm. A part is operand 0.
 fn lengths(part: usize, tally: &mut Tally) {
-    const MOST: usize = 16;
+    const MOST: usize = FIELDS + 3;
     let mut numbers = [0xDEAD_BEEF; MOST];
     numbers[..FIELDS].copy_from_slice(&record([part, 0, 0], 0xF1, 0xF2, 0xF3));
     for count in 0..=MOST {

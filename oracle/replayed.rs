@@ -7,8 +7,8 @@ use crate::lengths;
 use crate::sweeps::{self, Rule, Swept, NO_START};
 use crate::numbers as asked;
 use crate::told::Told;
-use crate::{hex, ported, Kind, Tally, FIELDS};
-use crate::{DISPABS, DROPPED, FIRST, IMM_WIDE, LENGTH, MARKED, OPCODE, OPERANDS, SIZE, TAKEN, WIDTH};
+use crate::{hex, ported, record_of, Kind, Tally, FIELDS};
+use crate::{DISPABS, DROPPED, FIRST, IMM_WIDE, LENGTH, MARKED, OFFSETS, OPCODE, OPERANDS, SIZE, TAKEN, WIDTH};
 
 #[rustfmt::skip]
 pub const KINDS: &[Kind] = &[
@@ -17,6 +17,7 @@ pub const KINDS: &[Kind] = &[
     Kind { name: "images to sweep, stopping", quick_parts: 1, all_parts: 1, run_part: stopping_sweeps },
     Kind { name: "images to sweep, going on", quick_parts: 1, all_parts: 1, run_part: sweeps_going_on },
     Kind { name: "operands to ask for", quick_parts: 1, all_parts: 1, run_part: operands },
+    Kind { name: "numbers to place", quick_parts: 1, all_parts: 1, run_part: places },
     Kind { name: "lengths to tell", quick_parts: 1, all_parts: 1, run_part: told_lengths },
 ];
 
@@ -67,7 +68,7 @@ fn strings(_part: usize, tally: &mut Tally) {
         let string = bytes(string, number(count));
         let mut port = ported(&string, 0);
         // What the Rust does not have is not stored.
-        for free in [WIDTH, FIRST, MARKED, DROPPED] {
+        for free in [WIDTH, FIRST, MARKED].into_iter().chain(DROPPED..FIELDS) {
             port.fields[free] = 0;
         }
         let same = port.refusal == number(refusal) && port.fields == wanted;
@@ -81,7 +82,7 @@ fn strings(_part: usize, tally: &mut Tally) {
 fn record(names: &str, imm_wide: &str, fields: &str) -> [u32; FIELDS] {
     let [opcode, size, width, op0, op1, op2] = numbers(&names[1..], [2, 1, 1, 2, 2, 2]);
     let [dispabs, first] = numbers(fields, [4, 4]);
-    [0, opcode, size, width, op0, op1, op2, number(imm_wide), dispabs, first, 0, 0, 0]
+    record_of([0, opcode, size, width, op0, op1, op2, number(imm_wide), dispabs, first, 0, 0])
 }
 
 fn records(_part: usize, tally: &mut Tally) {
@@ -142,6 +143,20 @@ fn operands(_part: usize, tally: &mut Tally) {
         let wanted = i64::from(number(distance)) * if sign == "1" { -1 } else { 1 };
         let record = record(names, imm_wide, fields);
         asked::compare(tally, &record, number(k) as usize, (refusal == "0").then_some(wanted));
+    }
+}
+
+fn places(_part: usize, tally: &mut Tally) {
+    for words in lines(|first| first == 'P') {
+        let [count, string, refusal, first, dispabs, imm_wide, ..] = words[..] else {
+            panic!("a stored string with places has six words: {words:?}");
+        };
+        let string = bytes(string, number(&count[1..]));
+        let port = ported(&string, 0);
+        let wanted = [first, dispabs, imm_wide].map(|place| numbers(place, [1, 1]));
+        let told = OFFSETS.map(|at| [port.fields[at], port.fields[at + 1]]);
+        let same = port.refusal == number(refusal) && told == wanted;
+        tally.count(number(refusal) == 0, same, || format!("{}\n  stored {words:?}\n  port {} {told:X?}\n", hex(&string), port.refusal));
     }
 }
 

@@ -5,9 +5,9 @@ use std::fmt::Write;
 
 use oracle::answer;
 
-use crate::{asked, images, odd};
+use crate::{asked, images, odd, placed};
 
-const MOST_BYTES: usize = 8;
+pub const MOST_BYTES: usize = 8;
 
 // The two tails of the whole strings. No position has the same byte in both, and no byte stands twice in a tail except zero;
 // wherever a 20-bit number can end, at least one of them has a top nibble that must be masked away.
@@ -15,7 +15,7 @@ const WHOLE_TAILS: [[u8; 6]; 2] =
     [[0x89, 0x67, 0xF5, 0xB2, 0xD6, 0x1C], [0x00, 0xFE, 0x4A, 0x00, 0x93, 0x80]];
 
 // The tail that is cut short. Its first three bytes are conditions that 7E 2n accepts, so those codes are accepted once whole.
-const CUT_TAIL: [u8; 6] = [0x05, 0x06, 0xFA, 0xC3, 0xD4, 0xE7];
+pub const CUT_TAIL: [u8; 6] = [0x05, 0x06, 0xFA, 0xC3, 0xD4, 0xE7];
 
 // Stands before the condition bytes of 7E 2n. Both are refused as conditions, so that one read too early shows.
 const BEFORE_CONDITION: [u8; 2] = [0x90, 0x7F];
@@ -24,12 +24,13 @@ const BEFORE_CONDITION: [u8; 2] = [0x90, 0x7F];
 const BENCH_LINES: [&[u8]; 4] =
     [&[0x74, 0x7E, 0xFF, 0x00], &[0x74, 0x7A, 0xFF], &[0x74, 0x7E, 0x00, 0x01], &[0x7D, 0x0C, 0x10, 0x00, 0x00]];
 
-/// Strings to decode, records to encode, images to sweep by both rules, and records with an operand to ask for.
+/// Strings to decode, records to encode, images to sweep by both rules, records with an operand to ask for, and strings whose numbers are to
+/// be placed.
 pub fn list() -> Result<String, String> {
     let strings: Vec<Vec<u8>> = strings().into_iter().collect();
     let decoded: String = strings.iter().map(|bytes| stored_line(bytes)).collect();
     let encoded: String = odd::list()?.lines().map(encoded_line).collect();
-    Ok(decoded + &encoded + &images::list(&strings) + &asked::list())
+    Ok(decoded + &encoded + &images::list(&strings) + &asked::list() + &placed::list()?)
 }
 
 // An odd record's line at the width of the others.
