@@ -1,13 +1,15 @@
 -- `replay::kind::kind_of` meets its contract: the tests of the first character are the definition's.
 -- Assumes nothing.
 use Prim.Native.Nat.{ℕ}
-use mathlib.Core.Path.{_≡_, refl}
+use mathlib.Core.Path.{_≡_, refl, sym, ap, _∙_}
 use mathlib.Core.List.{List, [], _∷_}
 use native.Mathlib.Omega.{arith}
-use lib.ListN.{length}
+use lib.Dec.{eqb}
+use lib.ListN.{length, getD}
 use borrow.Author.Needs.{needs}
 use borrow.Author.Tests.{eq-eqb, ne-eqb}
-use Rattle.replay.specs.declared.kind.Kind.the-variants.{Decodes}
+use Rattle.laws.specs.Choice.{pick}
+use Rattle.replay.specs.declared.kind.Kind.the-variants.{Places, Decodes}
 use Rattle.replay.specs.Line.{kindOf}
 use Rattle.replay.proofs.kind.kind_of.Statement.{statement}
 use Rattle.replay.proofs.kind.kind_of.Tie as tie
@@ -34,31 +36,26 @@ returns-5 c =
     let s = g .before .before in
     rw (ne-eqb _ 69 (s .before .before .if2 .left), ne-eqb _ 83 (s .if3 .left), ne-eqb _ 71 (g .if4 .left), eq-eqb _ 78 (c .if5 .taken))
 
+-- behind the first four tests
+last-test : (s : List ℕ) → (getD s 0 0 ≡ 69 → ⊥) → (getD s 0 0 ≡ 83 → ⊥) → (getD s 0 0 ≡ 71 → ⊥) → (getD s 0 0 ≡ 78 → ⊥)
+    → pick (eqb (getD s 0 0) 80) Places Decodes ≡ kindOf s
+last-test s e f g h = rw (ne-eqb _ 69 e, ne-eqb _ 83 f, ne-eqb _ 71 g, ne-eqb _ 78 h)
+
 returns-6 : tie.Need-returns-6
 returns-6 c =
     let n = c .before .before in
     let g = n .before .before in
     let s = g .before .before in
-    rw (
-      ne-eqb _ 69 (s .before .before .if2 .left),
-      ne-eqb _ 83 (s .if3 .left),
-      ne-eqb _ 71 (g .if4 .left),
-      ne-eqb _ 78 (n .if5 .left),
-      eq-eqb _ 80 (c .if6 .taken),
-    )
+    let t = s .before .before in
+    ap (λ b. pick b Places Decodes) (sym (eq-eqb _ 80 (c .if6 .taken))) ∙ last-test (t .before .before .before .args .line .now) (t .if2 .left) (s .if3 .left) (g .if4 .left) (n .if5 .left)
 
 returns-7 : tie.Need-returns-7
 returns-7 c =
     let n = c .before .before in
     let g = n .before .before in
     let s = g .before .before in
-    rw (
-      ne-eqb _ 69 (s .before .before .if2 .left),
-      ne-eqb _ 83 (s .if3 .left),
-      ne-eqb _ 71 (g .if4 .left),
-      ne-eqb _ 78 (n .if5 .left),
-      ne-eqb _ 80 (c .if6 .left),
-    )
+    let t = s .before .before in
+    ap (λ b. pick b Places Decodes) (sym (ne-eqb _ 80 (c .if6 .left))) ∙ last-test (t .before .before .before .args .line .now) (t .if2 .left) (s .if3 .left) (g .if4 .left) (n .if5 .left)
 
 pub kind-of-spec : {M : Type 1} → statement M
 kind-of-spec =
