@@ -1,5 +1,4 @@
 // A line with bytes, and what decoding them gives.
-ghost use mathlib.Core.Path.{_≡_};
 ghost use Rattle.replay.specs.Verdict.{Tells};
 ghost use Rattle.replay.specs.Decoding.{Whole, Right};
 use crate::given;

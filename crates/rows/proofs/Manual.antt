@@ -1,15 +1,14 @@
 -- Decoding and the manual: what an unmarked code that has a meaning decodes to is the manual's instruction, whatever bytes follow.
 -- Assumes nothing.
-use Prim.Native.Nat.{ℕ, _-_, _%_, _<_}
+use Prim.Native.Nat.{ℕ, _-_, _<_}
 use mathlib.Core.Path.{_≡_, refl, sym, ap, ap₂, subst, _∙_}
 use mathlib.Core.Bool.{Bool, true, false, not}
 use mathlib.Core.List.{List, _∷_}
-use native.Mathlib.Nat.{mod-eq-of-lt}
 use lib.Dec.{T, eqb, ltb, eqb→eq, ltb→lt}
 use lib.ListN.{getD}
 use borrow.Author.Tests.{eqb-true}
 use Rattle.laws.specs.Choice.{pick, both}
-use Rattle.laws.proofs.Choice.{both-left, both-right}
+use Rattle.laws.proofs.Choice.{both-right}
 use Rattle.record.specs.declared.Part.{Part}
 use Rattle.record.specs.declared.Opcode.{Opcode}
 use Rattle.record.specs.declared.Operand.{Operand}
@@ -29,8 +28,8 @@ use Rattle.rows.specs.Codes.{condOf}
 use Rattle.rows.specs.Rows.{known, rowsOf, document01}
 use Rattle.rows.specs.Run.{decodeRows}
 use Rattle.rows.specs.All.{everyCode}
-use Rattle.rows.specs.Spans.{Source, code, read, twenty, Naming, byRow, byByte, Spans, spansOf, numberIn, wideIn, namedIn, MadeBy}
-use Rattle.rows.specs.Agree.{numberAt, Shows, inCode, recorded, conditional, mnemonicIn, sizeFits, AsManual}
+use Rattle.rows.specs.Spans.{Source, code, read, twenty, Naming, byRow, byByte, spansOf, wideIn, namedIn, MadeBy}
+use Rattle.rows.specs.Agree.{Shows, inCode, recorded, conditional, mnemonicIn, sizeFits, AsManual}
 use Rattle.rows.specs.steps.Meant.{spot, spotWide, meaningOf}
 use Rattle.rows.proofs.All.{every-code}
 use Rattle.rows.proofs.Agree.{row-agreement, condition}

@@ -33,7 +33,7 @@ use Rattle.rows.specs.Parts.{DifferIn, droppedOf, keptOf, holding}
 use Rattle.rows.specs.Rows.{document01}
 use Rattle.rows.specs.Row.{Num, disp, imm, imm20, Read, num, cond, stop, Condition, named, unnamed, Face, Row, Table}
 use Rattle.rows.specs.Run.{reading, readDisp, readInto, andThen, judged, past, renamed, refusal, run, runRow, begun, bytes, twentyBits, decodeBy, decodeRows}
-use Rattle.rows.specs.Spans.{Source, code, read, twenty, Naming, byRow, byByte, Spans, follow, spansOf, dispNext, condNext, numberIn, wideIn, droppedIn, partIn, partsIn, namedIn, Made, MadeBy}
+use Rattle.rows.specs.Spans.{Source, code, read, twenty, Spans, follow, spansOf, dispNext, condNext, numberIn, wideIn, droppedIn, partIn, partsIn, Made, MadeBy}
 use Rattle.rows.proofs.Bytes.{bytes-alike, drop-bytes, put-bytes}
 use Rattle.rows.proofs.Laid.{Standing, imm-next, cond-next, after-disp, begins, laid-row, stays-free, condition-free}
 use Rattle.rows.proofs.Plain.{Plain, plainSource, wide-again, dropped-again, plain-at}

@@ -9,7 +9,6 @@ use lib.ListN.{length, getD}
 use lib.Dec.{eqb, leb, ltb}
 use Rattle.laws.specs.Choice.{pick}
 use Rattle.record.specs.declared.Opcode.{Opcode}
-use Rattle.record.specs.declared.Parts.{Parts}
 use Rattle.record.specs.declared.Record.{Record}
 use Rattle.record.specs.declared.Seen.{Seen}
 use Rattle.record.specs.declared.Got.the-variants.{On, Short}
