@@ -8,7 +8,7 @@ use Rattle.record.specs.declared.fields.Field.the-variants.{Nowhere as n
 abbrev pub part : ℕ → ℕ → Part
 part o w = record { offset = o; width = w }
 
--- "width and offset 0 mean that no byte after the second was read for it"
+-- no byte behind the second was read: both numbers are 0
 abbrev pub noPart : Part
 noPart = part 0 0
 

@@ -18,4 +18,6 @@ pub mod Plain
 pub mod Manual
 pub mod Dropped
 pub mod Parts
+pub mod Unchanged
 pub mod Patch
+pub mod Image

@@ -17,7 +17,7 @@ use Rattle.record.specs.Same.{valueOf}
 use Rattle.rows.specs.Run.{twentyBits}
 use Rattle.rows.specs.Spans.{numberIn}
 
--- "the parts don't overlap, each lies inside the length": and behind the second byte, in an instruction of n bytes
+-- of an instruction of n bytes: its parts share no byte, and each lies inside it, behind the second byte
 pub record Laid (n : ℕ) (p : Parts) : Type 0 where
   pub inside : Inside n p
   pub behind : (f : Field) (i : ℕ) → Within (partOf f p) i → 2 ≤ i
@@ -34,11 +34,11 @@ keptOf w v = pick (eqb w 3) (v % twentyBits) v
 abbrev pub droppedOf : ℕ → ℕ → Bool
 droppedOf w v = pick (eqb w 3) (leb twentyBits v) false
 
--- "reading those of width above 0 again, 20-bit ones masked, gives the fields"
+-- what stands at a part, read once more, is what its field holds
 abbrev pub ReadAgain : List ℕ → Record → Type 0
 ReadAgain bs r = (f : Field) → 0 < partOf f (r .parts) .width → valueOf f r ≡ keptOf (partOf f (r .parts) .width) (numberIn bs (partOf f (r .parts)))
 
--- "cover every byte behind the second": a byte is a part's, or the last of 7E 2n, which is the condition byte
+-- a byte belongs to a part, or is the last of 7E 2n, which is the condition byte
 pub data Covered (a b : ℕ) (r : Record) (i : ℕ) : Type 0 where
   by-part : (f : Field) → Within (partOf f (r .parts)) i → Covered a b r i
   by-condition : a ≡ 0x7E → b / 16 ≡ 2 → i + 1 ≡ r .length → Covered a b r i
@@ -55,7 +55,7 @@ pub record DifferIn (p : Part) (bs cs : List ℕ) : Type 0 where
   pub long : length cs ≡ length bs
   pub elsewhere : (i : ℕ) → (Within p i → ⊥) → getD cs i 0 ≡ getD bs i 0
 
--- "the same record but for that field": v was read into it in place of what it held
+-- a record as it was, but that v was read into one field in place of what this held
 abbrev pub holding : Field → ℕ → Record → Record
 holding nowhere v r = r
 holding wide v r = numbered (keptOf (r .parts .«imm_wide» .width) v) (r .dispabs) (r .first) (droppedOf (r .parts .«imm_wide» .width) v) (r .parts) r
