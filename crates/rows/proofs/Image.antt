@@ -13,12 +13,11 @@ use Rattle.laws.specs.Over.{put}
 use Rattle.laws.proofs.Over.{put-length, put-within, put-before, put-behind}
 use Rattle.record.specs.declared.Part.{Part}
 use Rattle.record.specs.declared.fields.Field.{Field}
-use Rattle.record.specs.declared.fields.Field.the-variants.{Short as short}
 use Rattle.record.specs.Parts.{partOf, Within}
 use Rattle.rows.specs.Bytes.{Bytes}
 use Rattle.rows.specs.Parts.{DifferIn, holding}
 use Rattle.rows.specs.Rows.{document01}
-use Rattle.rows.specs.Run.{refusal, bytes, decodeRows}
+use Rattle.rows.specs.Run.{bytes, decodeRows}
 use Rattle.rows.specs.Spans.{numberIn}
 use Rattle.rows.proofs.Bytes.{bytes-alike, drop-bytes, put-bytes}
 use Rattle.rows.proofs.Plain.{plain-at}

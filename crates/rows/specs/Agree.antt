@@ -1,5 +1,5 @@
 -- Demand 2, the manual's part: when a decoded record is the instruction that the manual gives to its code, with the manual's numbers.
-use Prim.Native.Nat.{ℕ, _-_, _+_}
+use Prim.Native.Nat.{ℕ, _-_, _+_, _%_}
 use mathlib.Core.Bool.{Bool, true, false}
 use mathlib.Core.List.{List}
 use mathlib.Core.Path.{_≡_}
@@ -20,11 +20,10 @@ use Rattle.manual.specs.Bits.{Condition, named, conditionAt}
 use Rattle.manual.specs.Meaning.{Suffix, none, B, W, L, A, Number, plus, minus, Spot, nothing, plain, behind, within, carry, counter, flag, Meaning}
 use Rattle.manual.specs.Packed.{suffixNo}
 use Rattle.rows.specs.Run.{bytes}
-use Rattle.rows.specs.Parts.{keptOf}
 
 -- the number in so many bytes of the instruction, low byte first; addresses of three bytes have 20 bits
 abbrev pub numberAt : List ℕ → ℕ → ℕ → ℕ
-numberAt bs p n = keptOf n (bytes bs p n)
+numberAt bs p n = pick (eqb n 3) (bytes bs p n % 0x100000) (bytes bs p n)
 
 -- a number that is part of the code. Imm4 keeps the raw code: 0 to 7 are 1 to 8, 8 to F are -1 to -8
 abbrev pub inCode : Operand → ℕ → Number
