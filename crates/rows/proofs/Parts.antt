@@ -1,6 +1,6 @@
--- Request A5, of every accepted record of any row table: its parts lie inside the length, behind the second byte, and share no byte. Where a
--- table's parts are plain, as document 01's are, reading them again gives the fields, and they cover every byte behind the second but
--- for the condition byte of 7E 2n.
+-- Request A5, of every accepted record of any row table: its parts lie inside the length, behind the second byte, and share no byte; and reading
+-- them again, as the row's reads keep numbers, gives the fields. Where a table's parts are plain, as document 01's are, their widths tell how,
+-- and they cover every byte behind the second but for the condition byte of 7E 2n.
 -- Assumes nothing.
 use Prim.Native.Nat.{ℕ, _+_, _/_, _≤_, _<_}
 use mathlib.Core.Path.{_≡_, refl, sym, _∙_, subst}
@@ -20,10 +20,10 @@ use Rattle.rows.specs.Row.{Row, Table}
 use Rattle.rows.specs.Rows.{document01}
 use Rattle.rows.specs.Run.{decodeBy, decodeRows}
 use Rattle.rows.specs.Spans.{Spans, spansOf, numberIn, partIn, partsIn, MadeBy}
-use Rattle.rows.specs.Parts.{Laid, Sized, keptOf, Covered, by-part, by-condition, Placed}
+use Rattle.rows.specs.Parts.{Laid, Sized, keptOf, ReadByKind, Covered, by-part, by-condition, Placed}
 use Rattle.rows.proofs.Laid.{laid-row}
 use Rattle.rows.proofs.Length.{at-least}
-use Rattle.rows.proofs.Plain.{withinb, conditionb, coveredb, Plain, plain-at, whole, sized, sized-source, wide-again}
+use Rattle.rows.proofs.Plain.{withinb, conditionb, coveredb, Plain, plain-at, whole, sized, sized-source, by-kind, wide-again}
 use Rattle.rows.proofs.Refusals.{refused-blank}
 use Rattle.rows.proofs.Spans.{accepted}
 use Rattle.rows.proofs.Taken.{counted}
@@ -34,6 +34,17 @@ module _ (t : Table) where
   laid a b bs z =
       let m = accepted t a b bs z .made in
       rw (m .length, m .parts) (laid-row (t .rowAt a b))
+
+  pub read-by-kind : (a b : ℕ) (bs : List ℕ) → Bytes (a ∷ b ∷ bs) → decodeBy t (a ∷ b ∷ bs) .refusal ≡ 0
+      → ReadByKind (a ∷ b ∷ bs) (spansOf (t .rowAt a b) .wide) (decodeBy t (a ∷ b ∷ bs) .inst)
+  read-by-kind a b bs h z =
+      let m = accepted t a b bs z .made in
+      let w = t .rowAt a b in
+      record {
+        «imm_wide» = rw (m .parts) (λ l. m .«imm_wide» ∙ by-kind (a ∷ b ∷ bs) (w .number) h (spansOf w .wide) l);
+        dispabs = rw (m .parts) (m .dispabs);
+        first = rw (m .parts) (m .first);
+      }
 
   -- and of a refusal, where there are no parts
   pub inside : (bs : List ℕ) → Inside (decodeBy t bs .inst .length) (decodeBy t bs .inst .parts)

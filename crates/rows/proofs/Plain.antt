@@ -16,7 +16,7 @@ use Rattle.laws.proofs.Range.{upto-at}
 use Rattle.record.specs.declared.Part.{Part}
 use Rattle.rows.specs.All.{everyCode}
 use Rattle.rows.specs.Bytes.{Bytes}
-use Rattle.rows.specs.Parts.{Sized, keptOf, droppedOf}
+use Rattle.rows.specs.Parts.{Sized, keptBy, keptOf, droppedOf}
 use Rattle.rows.specs.Rows.{known, rowsOf, document01}
 use Rattle.rows.specs.Spans.{Source, code, read, twenty, Spans, spansOf, numberIn, wideIn, droppedIn, partIn}
 use Rattle.rows.proofs.All.{every-code}
@@ -92,13 +92,21 @@ sized-source code t = (omega arith, λ e. refl)
 sized-source (read p) t = sized p (both-left (plainPart p) (ltb 0 (p .width)) t)
 sized-source (twenty p) t = (omega arith, λ e. absurd (omega arith))
 
+-- a number for imm_wide: by its kind, of any row, and by its width
+pub by-kind : (bs : List ℕ) (number : ℕ) → Bytes bs → (q : Source) → 0 < partIn q .width → wideIn bs number q ≡ keptBy q (numberIn bs (partIn q))
+by-kind bs number h code l = absurd (omega arith)
+by-kind bs number h (read p) l = mod-eq-of-lt (bytes-small (p .width) (p .offset) bs h)
+by-kind bs number h (twenty p) l = refl
+
+by-width : (q : Source) (v : ℕ) → T (plainSource q) → keptBy q v ≡ keptOf (partIn q .width) v
+unfolding plainSource
+by-width code v t = refl
+by-width (read p) v t = sym (whole p v (both-left (plainPart p) (ltb 0 (p .width)) t))
+by-width (twenty p) v t = refl
+
 pub wide-again : (bs : List ℕ) (number : ℕ) → Bytes bs → (q : Source) → T (plainSource q) → 0 < partIn q .width
     → wideIn bs number q ≡ keptOf (partIn q .width) (numberIn bs (partIn q))
-unfolding plainSource
-wide-again bs number h code t l = absurd (omega arith)
-wide-again bs number h (read p) t l =
-    mod-eq-of-lt (bytes-small (p .width) (p .offset) bs h) ∙ sym (whole p (numberIn bs p) (both-left (plainPart p) (ltb 0 (p .width)) t))
-wide-again bs number h (twenty p) t l = refl
+wide-again bs number h q t l = by-kind bs number h q l ∙ by-width q (numberIn bs (partIn q)) t
 
 pub dropped-again : (bs : List ℕ) (q : Source) → T (plainSource q) → droppedIn bs q ≡ droppedOf (partIn q .width) (numberIn bs (partIn q))
 unfolding plainSource

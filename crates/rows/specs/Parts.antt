@@ -15,7 +15,7 @@ use Rattle.record.specs.Parts.{partOf, Inside, Within}
 use Rattle.record.specs.Numbered.{numbered}
 use Rattle.record.specs.Same.{valueOf}
 use Rattle.rows.specs.Run.{twentyBits}
-use Rattle.rows.specs.Spans.{numberIn}
+use Rattle.rows.specs.Spans.{Source, code, read, twenty, numberIn}
 
 -- of an instruction of n bytes: its parts share no byte, and each lies inside it, behind the second byte
 pub record Laid (n : ℕ) (p : Parts) : Type 0 where
@@ -27,7 +27,19 @@ pub record Laid (n : ℕ) (p : Parts) : Type 0 where
 abbrev pub Sized : Part → Type 0
 Sized p = (p .width ≤ 3) × (p .width ≡ 0 → p .offset ≡ 0)
 
--- what is kept of a number that was read from so many bytes: of three 20 bits, and then the rest is dropped
+-- what a kind of read keeps of a number: 20 bits, or all of it
+abbrev pub keptBy : Source → ℕ → ℕ
+keptBy code v = v
+keptBy (read p) v = v
+keptBy (twenty p) v = v % twentyBits
+
+-- of any row: what stands at each part, read once more and kept as its kind of read keeps it, is what the field holds
+pub record ReadByKind (bs : List ℕ) (wide : Source) (r : Record) : Type 0 where
+  pub «imm_wide» : 0 < r .parts .«imm_wide» .width → r .«imm_wide» ≡ keptBy wide (numberIn bs (r .parts .«imm_wide»))
+  pub dispabs : r .dispabs ≡ numberIn bs (r .parts .dispabs)
+  pub first : r .first ≡ numberIn bs (r .parts .first)
+
+-- in document 01's rows the width tells the kind. What is kept of a number that was read from so many bytes: of three 20 bits, and then the rest is dropped
 abbrev pub keptOf : ℕ → ℕ → ℕ
 keptOf w v = pick (eqb w 3) (v % twentyBits) v
 
