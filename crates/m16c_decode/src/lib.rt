@@ -19,7 +19,7 @@ fn flag_number(x: bool) -> u32
 // So many numbers are an answer.
 const ENTRIES: usize = 19;
 
-// Where the numbers of a record stand, over the last entries.
+// Where the numbers of a record stand, over the entries behind the others.
 fn deliver_parts(parts: Parts, out: &mut [u32])
     requires { ⌜ entries ≤ length (now out) ⌝ }
     ensures { λ r. ⌜ now (out .exit) ≡ put partsFrom (partNumbers parts) (now (out .entry)) ⌝ }

@@ -14,12 +14,11 @@ use Rattle.record.specs.declared.Parts.{Parts}
 use Rattle.record.specs.declared.Seen.{Seen}
 use Rattle.record.specs.declared.Got.{Got}
 use Rattle.record.specs.declared.Got.the-variants.{On, Short}
-use Rattle.record.specs.Parts.{part}
 use Rattle.rows.specs.Row.{Num, disp, imm, imm20}
 use Rattle.rows.specs.Codes.{sizeG}
 use Rattle.rows.specs.Fate.{bytesOf}
 use Rattle.rows.specs.Run.{bytes, reading, readDisp, readInto, dispAt, immAt, withDisp, inFull, inTwenty, begun}
-use Rattle.readers.specs.steps.Told.{retold, told, readingIn}
+use Rattle.readers.specs.steps.Told.{dispTold, immTold, retold, told, readingIn}
 
 -- what was read, or nothing, is told as it is if its parts are
 same : (f : Parts → Parts) (t : Seen) → f (t .parts) ≡ t .parts → (l : Bool) → told f (pick l (On t) Short) ≡ pick l (On t) Short
@@ -37,14 +36,11 @@ module _ (bs : List ℕ) (s : Seen) (h : s .taken < 256) where
       there : Seen
       there = withDisp n (bytes bs (s .taken) n) s
 
-      moved : Parts → Parts
-      moved q = record { first = q .first; dispabs = part (s .taken % 256) (q .dispabs .width); «imm_wide» = q .«imm_wide» }
-
-      by : (x l : Bool) → told (λ q. pick x q (moved q)) (pick x (On s) (pick l (On there) Short)) ≡ pick x (On s) (pick l (On there) Short)
+      by : (x l : Bool) → told (λ q. pick x q (dispTold (s .taken % 256) q)) (pick x (On s) (pick l (On there) Short)) ≡ pick x (On s) (pick l (On there) Short)
       by true l = refl
-      by false l = same moved there (ap (λ p. dispAt p n (s .parts)) place) l
-  as-read (imm n) = same (retold (s .taken % 256) (imm n)) (inFull n (bytes bs (s .taken) n) s) (ap (λ p. immAt p n (s .parts)) place) (leb (s .taken + n) (length bs))
-  as-read imm20 = same (retold (s .taken % 256) imm20) (inTwenty (bytes bs (s .taken) 3) s) (ap (λ p. immAt p 3 (s .parts)) place) (leb (s .taken + 3) (length bs))
+      by false l = same (dispTold (s .taken % 256)) there (ap (λ p. dispAt p n (s .parts)) place) l
+  as-read (imm n) = same (immTold (s .taken % 256)) (inFull n (bytes bs (s .taken) n) s) (ap (λ p. immAt p n (s .parts)) place) (leb (s .taken + n) (length bs))
+  as-read imm20 = same (immTold (s .taken % 256)) (inTwenty (bytes bs (s .taken) 3) s) (ap (λ p. immAt p 3 (s .parts)) place) (leb (s .taken + 3) (length bs))
 
 pub near : (k : Num) (bs : List ℕ) (s : Seen) {g : Got} → s .taken < 256 → g ≡ readingIn k bs s → g ≡ reading k bs s
 unfolding readingIn

@@ -8,7 +8,6 @@ use mathlib.Core.Bool.{true, not}
 use mathlib.Core.List.{List, [], _∷_}
 use native.Mathlib.Omega.{arith}
 use lib.Dec.{T, T-not, eqb, eqb-refl, leb}
-use lib.ListN.{length}
 use Rattle.record.specs.declared.Answer.{Answer}
 use Rattle.record.specs.declared.Record.{Record}
 use Rattle.record.specs.declared.fields.Field.{Field}
@@ -18,7 +17,7 @@ use Rattle.record.specs.Numbered.{numbered}
 use Rattle.rows.specs.Bytes.{Bytes}
 use Rattle.rows.specs.Parts.{DifferIn, droppedOf, keptOf, holding}
 use Rattle.rows.specs.Row.{Row, Table}
-use Rattle.rows.specs.Run.{refusal, runRow, begun, bytes, twentyBits, decodeBy}
+use Rattle.rows.specs.Run.{runRow, begun, twentyBits, decodeBy}
 use Rattle.rows.specs.Spans.{Source, code, read, twenty, spansOf, numberIn, wideIn, droppedIn, partIn, partsIn, MadeBy}
 use Rattle.rows.proofs.Bytes.{bytes-alike}
 use Rattle.rows.proofs.Laid.{begins, laid-row}

@@ -57,7 +57,6 @@ all-plain : T (everyCode plainAt)
 unfolding everyCode upto plainAt plainSpans plainSource coveredb spansOf rowsOf
 all-plain = tt
 
--- a number of one byte or two is kept whole
 short-width : (p : Part) → T (plainPart p) → p .width ≤ 2
 unfolding plainPart
 short-width p t = by (eqb (p .width) 0) refl t
@@ -73,6 +72,7 @@ not-three p t = by (eqb (p .width) 3) refl
     by false e = refl
     by true e = absurd (omega (arith, short-width p t, eqb-true (p .width) 3 e))
 
+-- a number of one byte or two is kept whole, and nothing of it is dropped
 pub whole : (p : Part) (v : ℕ) → T (plainPart p) → keptOf (p .width) v ≡ v
 whole p v t = rw (not-three p t)
 

@@ -22,10 +22,6 @@ over-twenty a b c h k = by (leb 16 c) refl
     by false e = let l : a + 256 * (b + 256 * c) < twentyBits = omega (arith, leb-false 16 c e) in sym (lt-leb _ _ l)
 
 module _ (bs : List ℕ) (s : Seen) where
-  pub none : On s ≡ reading (disp 0) bs s
-  unfolding readDisp
-  none = refl
-
   -- too few bytes
   pub short : (n : ℕ) → 0 < n → length bs < s .taken + n → Short ≡ reading (disp n) bs s
   unfolding readDisp

@@ -11,11 +11,18 @@ use Rattle.record.specs.Parts.{part}
 use Rattle.rows.specs.Row.{Num, disp, imm, imm20}
 use Rattle.rows.specs.Run.{reading}
 
--- what was read last, said to stand at p
+-- dispabs, or what is in imm_wide, said to stand at p
+abbrev pub dispTold : ℕ → Parts → Parts
+dispTold p q = record { first = q .first; dispabs = part p (q .dispabs .width); «imm_wide» = q .«imm_wide» }
+
+abbrev pub immTold : ℕ → Parts → Parts
+immTold p q = record { first = q .first; dispabs = q .dispabs; «imm_wide» = part p (q .«imm_wide» .width) }
+
+-- what was read last
 abbrev pub retold : ℕ → Num → Parts → Parts
-retold p (disp n) q = pick (eqb n 0) q (record { first = q .first; dispabs = part p (q .dispabs .width); «imm_wide» = q .«imm_wide» })
-retold p (imm n) q = record { first = q .first; dispabs = q .dispabs; «imm_wide» = part p (q .«imm_wide» .width) }
-retold p imm20 q = record { first = q .first; dispabs = q .dispabs; «imm_wide» = part p (q .«imm_wide» .width) }
+retold p (disp n) q = pick (eqb n 0) q (dispTold p q)
+retold p (imm n) q = immTold p q
+retold p imm20 q = immTold p q
 
 abbrev pub told : (Parts → Parts) → Got → Got
 told f (On s) = On (record { parts = f (s .parts); «imm_wide» = s .«imm_wide»; dispabs = s .dispabs; first = s .first; dropped = s .dropped; taken = s .taken })
