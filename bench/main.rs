@@ -19,7 +19,16 @@ use peer_loop::rust_decode_at_each;
 use peer_sweep_call::rust_sweep as rust_sweep_call;
 use peer_sweep_loop::rust_sweep as rust_sweep_loop;
 
-const FIRST_BYTES: [u8; 12] = [0x74, 0x75, 0x76, 0x77, 0x78, 0x79, 0x7A, 0x7B, 0x7C, 0x7D, 0x7E, 0xEB];
+// The first bytes that the Rust decodes too. `image`, `codes` and `random` have no others, so that all do the same work.
+const RUST_FIRST_BYTES: [u8; 12] = [0x74, 0x75, 0x76, 0x77, 0x78, 0x79, 0x7A, 0x7B, 0x7C, 0x7D, 0x7E, 0xEB];
+// Those of the port alone: two general operands, and lists of registers.
+#[rustfmt::skip] // ten in a line
+const TWO_OPERANDS: [u8; 20] = [
+    0x72, 0x73, 0x80, 0x81, 0x88, 0x89, 0x90, 0x91, 0x98, 0x99,
+    0xA0, 0xA1, 0xA8, 0xA9, 0xB0, 0xB1, 0xB8, 0xB9, 0xC0, 0xC1,
+];
+const LISTS: [u8; 2] = [0xEC, 0xED];
+
 const IMAGE_INSTRUCTIONS: usize = 4000;
 const RANDOM_PIECES: usize = 4;
 const SEED: u64 = 0x9E37_79B9_7F4A_7C15;
@@ -27,7 +36,8 @@ const SEED: u64 = 0x9E37_79B9_7F4A_7C15;
 // The operand whose number is asked for.
 const ASKED: usize = 0;
 
-// Where a record has the instruction's length.
+// Where a record has the bytes taken and the instruction's length.
+const TAKEN: usize = 0;
 const LENGTH: usize = 10;
 
 // Of the numbers that the Rust delivers, those that it does not have, and delivers 0 for.
@@ -46,6 +56,8 @@ struct Workload {
     records: Vec<Record>,
     /// Whether decoding refuses at some of the places.
     refuses: bool,
+    /// Whether the Rust decodes at all of them.
+    in_rust: bool,
     /// The image cut at places, as long as a sweep takes; none if the places leave something out.
     pieces: Vec<Vec<u8>>,
 }
@@ -76,6 +88,8 @@ struct Task {
     works: fn(&Workload) -> bool,
     takes: fn(&Record) -> bool,
     ways: &'static [Way],
+    /// Those that only what the Rust decodes can be done by.
+    rust_ways: &'static [Way],
 }
 
 // Another task is another entry: its ways under the names that bench/table.awk knows.
@@ -88,6 +102,8 @@ const TASKS: &[Task] = &[
             Way { name: "empty_loop", run: |work, out| at_each(places(work), &mut out.record, |_, _| ()) },
             Way { name: "empty_call", run: |work, out| decode_each(nothing_decoded, work, out) },
             Way { name: "rattle", run: |work, out| decode_each(m16c_decode, work, out) },
+        ],
+        rust_ways: &[
             Way { name: "rust_call", run: |work, out| decode_each(rust_decode, work, out) },
             Way { name: "rust_loop", run: |work, out| rust_decode_at_each(&work.image, &work.places, &mut out.record) },
         ],
@@ -103,6 +119,7 @@ const TASKS: &[Task] = &[
             Way { name: "decode_loop", run: |work, out| at_each(places(work), &mut out.record, |_, _| ()) },
             Way { name: "decode", run: |work, out| decode_each(m16c_decode, work, out) },
         ],
+        rust_ways: &[],
     },
     Task {
         name: "sweep",
@@ -111,6 +128,8 @@ const TASKS: &[Task] = &[
         ways: &[
             Way { name: "empty_loop", run: |work, out| at_each(work.pieces.iter(), out, |_, _| ()) },
             Way { name: "rattle", run: |work, out| sweep_each(m16c_sweep, work, out) },
+        ],
+        rust_ways: &[
             Way { name: "rust_call", run: |work, out| sweep_each(rust_sweep_call, work, out) },
             Way { name: "rust_loop", run: |work, out| sweep_each(rust_sweep_loop, work, out) },
         ],
@@ -123,6 +142,7 @@ const TASKS: &[Task] = &[
             Way { name: "empty_loop", run: |work, out| at_each(work.pieces.iter(), out, |_, _| ()) },
             Way { name: "rattle", run: |work, out| sweep_each(m16c_sweep_stopping, work, out) },
         ],
+        rust_ways: &[],
     },
     Task {
         name: "line",
@@ -132,6 +152,7 @@ const TASKS: &[Task] = &[
             Way { name: "empty_loop", run: |work, out| at_each(places(work), out, |_, _| ()) },
             Way { name: "rattle", run: |work, out| list_each(m16c_line, work, out) },
         ],
+        rust_ways: &[],
     },
     Task {
         name: "length",
@@ -144,6 +165,7 @@ const TASKS: &[Task] = &[
             Way { name: "decode_loop", run: |work, out| at_each(places(work), &mut out.record, |_, _| ()) },
             Way { name: "decode", run: |work, out| decode_each(m16c_decode, work, out) },
         ],
+        rust_ways: &[],
     },
     Task {
         name: "operand_number",
@@ -153,6 +175,7 @@ const TASKS: &[Task] = &[
             Way { name: "empty_loop", run: |work, out| at_each(work.records.iter(), out, |_, _| ()) },
             Way { name: "rattle", run: |work, out| ask_each(m16c_operand_number, work, out) },
         ],
+        rust_ways: &[],
     },
 ];
 
@@ -237,7 +260,8 @@ fn main() -> ExitCode {
     for task in TASKS {
         for work in workloads.iter().filter(|work| (task.works)(work)) {
             let work = only(work, task.takes);
-            for way in task.ways {
+            let rust_ways = if work.in_rust { task.rust_ways } else { &[] };
+            for way in task.ways.iter().chain(rust_ways) {
                 measure(&format!("{}.{}.{}", task.name, work.name, way.name), way, &work);
             }
         }
@@ -246,33 +270,44 @@ fn main() -> ExitCode {
 }
 
 fn workloads() -> Vec<Workload> {
-    let image = image_workload();
-    let single: Vec<Workload> = FIRST_BYTES.iter().map(|first| only_first_byte(&image, *first)).collect();
-    [image, codes_workload(), random_workload()].into_iter().chain(single).collect()
+    let image = image_workload("image", &RUST_FIRST_BYTES);
+    let two = image_workload("two", &TWO_OPERANDS);
+    let lists = image_workload("lists", &LISTS);
+    let by_first_byte = |work, firsts: &[u8]| firsts.iter().map(|first| only_first_byte(work, *first)).collect();
+    let single: [Vec<Workload>; 3] =
+        [by_first_byte(&image, &RUST_FIRST_BYTES), by_first_byte(&two, &TWO_OPERANDS), by_first_byte(&lists, &LISTS)];
+    [image, codes_workload(), two, lists, random_workload()].into_iter().chain(single.into_iter().flatten()).collect()
 }
 
 /// First bytes evenly, then an accepted code, then operand bytes at random.
-fn image_workload() -> Workload {
-    let codes = FIRST_BYTES.map(accepted_seconds);
+fn image_workload(name: &str, first_bytes: &[u8]) -> Workload {
+    let codes: Vec<Vec<u8>> = first_bytes.iter().map(|first| accepted_seconds(*first)).collect();
     let mut random = Random(SEED);
     let pick = |random: &mut Random| {
-        let row = random.below(FIRST_BYTES.len());
-        (FIRST_BYTES[row], codes[row][random.below(codes[row].len())])
+        let row = random.below(first_bytes.len());
+        (first_bytes[row], codes[row][random.below(codes[row].len())])
     };
     let picked: Vec<(u8, u8)> = (0..IMAGE_INSTRUCTIONS).map(|_| pick(&mut random)).collect();
-    assemble("image", &picked, &mut random)
+    assemble(name, &picked, &mut random)
 }
 
 fn codes_workload() -> Workload {
     let with_seconds = |first: u8| accepted_seconds(first).into_iter().map(move |second| (first, second));
-    let every: Vec<(u8, u8)> = FIRST_BYTES.into_iter().flat_map(with_seconds).collect();
+    let every: Vec<(u8, u8)> = RUST_FIRST_BYTES.into_iter().flat_map(with_seconds).collect();
     assemble("codes", &every, &mut Random(SEED))
 }
 
-/// Bytes at random, most of them refused, for sweeps that go on; the places are those at which they decode.
+/// Bytes at random, most of them refused, for sweeps that go on; the places are those at which they decode. A byte that would begin an
+/// instruction of the port alone is drawn anew.
 fn random_workload() -> Workload {
     let mut random = Random(SEED);
-    let mut piece = || -> Vec<u8> { (0..LONGEST_IMAGE).map(|_| random.byte()).collect() };
+    let mut byte = || loop {
+        let byte = random.byte();
+        if !is_of_port_alone(byte) {
+            break byte;
+        }
+    };
+    let mut piece = || -> Vec<u8> { (0..LONGEST_IMAGE).map(|_| byte()).collect() };
     let pieces: Vec<Vec<u8>> = (0..RANDOM_PIECES).map(|_| piece()).collect();
     let begins = (0..).step_by(LONGEST_IMAGE);
     let in_image = |(begin, piece): (usize, &Vec<u8>)| visited(piece).into_iter().map(move |visit| begin + visit.place);
@@ -280,7 +315,11 @@ fn random_workload() -> Workload {
     workload("random".to_string(), pieces.concat(), places, pieces)
 }
 
-/// A place at which a sweep decodes, the Rust's refusal there and the bytes that it took.
+fn is_of_port_alone(first: u8) -> bool {
+    TWO_OPERANDS.contains(&first) || LISTS.contains(&first)
+}
+
+/// A place at which a sweep decodes, the oracle's refusal there and the bytes that it took.
 #[derive(Clone, Copy)]
 struct Visit {
     place: usize,
@@ -315,7 +354,8 @@ fn workload(name: String, image: Vec<u8>, places: Vec<u32>, pieces: Vec<Vec<u8>>
     let answers = places.iter().map(|place| called(m16c_decode, &image, *place));
     let (refusals, records): (Vec<u32>, Vec<Record>) = answers.unzip();
     let refuses = refusals.iter().any(|refusal| *refusal != 0);
-    Workload { name, image, places, records, refuses, pieces }
+    let in_rust = !places.iter().any(|place| is_of_port_alone(image[*place as usize]));
+    Workload { name, image, places, records, refuses, in_rust, pieces }
 }
 
 fn assemble(name: &str, codes: &[(u8, u8)], random: &mut Random) -> Workload {
@@ -376,14 +416,15 @@ impl Random {
 
 // A way that did less would be measured for less.
 fn check_same_work(work: &Workload) -> Result<(), String> {
-    work.places.iter().try_for_each(|place| check_decoding(work, *place))?;
+    let check = if work.in_rust { check_decoding } else { check_accepted };
+    work.places.iter().try_for_each(|place| check(work, *place))?;
     if is_accepted(work) {
         work.places.iter().try_for_each(|place| check_line(work, *place))?;
         work.places.iter().zip(&work.records).try_for_each(|(place, record)| check_length(work, *place, record))?;
         work.records.iter().try_for_each(|record| check_encoding(record))?;
         work.records.iter().try_for_each(|record| check_number(record))?;
     }
-    work.pieces.iter().try_for_each(|piece| check_sweeping(piece))
+    work.pieces.iter().try_for_each(|piece| check_sweeping(work, piece))
 }
 
 /// All deliver the same, but for the numbers that the Rust does not have: two of its own are 0, and what stands behind them is left as it
@@ -401,6 +442,16 @@ fn check_decoding(work: &Workload, place: u32) -> Result<(), String> {
     if rust_call != (rattle.0, wanted) || rust_loop != wanted || !all_delivered {
         let answers = format!("rattle {rattle:?}\nrust, call {rust_call:?}\nrust, loop {rust_loop:?}");
         return Err(format!("different answers at place {place} of workload {}\n{answers}", work.name));
+    }
+    Ok(())
+}
+
+/// Where the Rust has nothing to compare with: accepted with the length that the oracle's model says, and every number is delivered.
+fn check_accepted(work: &Workload, place: u32) -> Result<(), String> {
+    let (refusal, record) = called(m16c_decode, &work.image, place);
+    let length = oracle::answer(&work.image[place as usize..]).taken as u32;
+    if refusal != 0 || [record[TAKEN], record[LENGTH]] != [length; 2] || record.contains(&u32::MAX) {
+        return Err(format!("not accepted at place {place} of workload {}: {refusal}, {record:?}", work.name));
     }
     Ok(())
 }
@@ -476,15 +527,17 @@ struct Swept {
 const UNTOUCHED: u16 = u16::MAX;
 
 /// All that go on sweep a piece to its end, over the same starts; the stopping sweep ends at the first refusal.
-fn check_sweeping(piece: &[u8]) -> Result<(), String> {
+fn check_sweeping(work: &Workload, piece: &[u8]) -> Result<(), String> {
     let visited = visited(piece);
     let end = Visit { place: piece.len(), refusal: oracle::ACCEPTED, taken: 0 };
     let first_refused = visited.iter().position(|visit| visit.refusal != oracle::ACCEPTED);
     let (before, stop) = first_refused.map_or((visited.as_slice(), end), |k| (&visited[..k], visited[k]));
     let going_on = swept_so(piece, &visited, end);
     check_swept("rattle", m16c_sweep, piece, &going_on)?;
-    check_swept("rust, call", rust_sweep_call, piece, &going_on)?;
-    check_swept("rust, loop", rust_sweep_loop, piece, &going_on)?;
+    if work.in_rust {
+        check_swept("rust, call", rust_sweep_call, piece, &going_on)?;
+        check_swept("rust, loop", rust_sweep_loop, piece, &going_on)?;
+    }
     check_swept("rattle, stopping", m16c_sweep_stopping, piece, &swept_so(piece, before, stop))
 }
 

@@ -16,8 +16,8 @@ pub use given::rust_sweep;
 use core::hint::black_box;
 
 /// How the port delivers an instruction: taken, opcode, size, width, three operands, imm_wide, dispabs, first, length, marked, dropped,
-/// and offset and width of first, of dispabs and of imm_wide.
-pub const NUMBERS: usize = 19;
+/// offset and width of first, of dispabs and of imm_wide, and registers.
+pub const NUMBERS: usize = 20;
 pub type Record = [u32; NUMBERS];
 
 /// The Rust delivers the numbers up to marked, and is not charged for what stands behind them, of which it tells nothing.

@@ -6,7 +6,7 @@
 BEGIN {
     split("decode encode sweep sweep_stopping line length operand_number", tasks, " ")
     # What the port stands beside, in the order shown; and the limits, for the workloads that look like use.
-    beside["insns decode"] = "rust_call rust_loop empty_call"
+    beside["insns decode"] = "rust_call rust_loop like empty_call"
     beside["insns encode"] = "decode empty_call"
     beside["insns sweep"] = "rust_call rust_loop stopping before"
     beside["insns sweep_stopping"] = "before"
@@ -25,17 +25,21 @@ BEGIN {
     # The small archive tells a length by decoding, so this stands beside its own decoding, and has no limit to the table of the fast one.
     beside["small length"] = "fast decode"
     delete limit["small length fast"]
-    limit["insns decode rust_call"] = limit["bytes decode rust_3"] = 1
+    limit["insns decode rust_call"] = limit["insns decode like"] = limit["bytes decode rust_3"] = 1
     limit["insns encode decode"] = 3
     limit["insns length decode"] = 0.25
     limit["insns sweep rust_call"] = 1.1
     limit["insns sweep stopping"] = limit["insns sweep before"] = limit["insns sweep_stopping before"] = 1.02
-    most["length fast"] = 3000
+    # Which workloads these two are for; every other limit is for "image", "codes" and sizes.
+    judged["insns decode like"] = "^(two|lists)$"
+    judged["insns length decode"] = "^(image|codes|two)$"
+    most["length fast"] = 6500
     most["together small"] = 24000
     # Whose code is measured in bytes, in the order shown.
     split("rust_3 rust_z fast small", sized, " ")
     spelled["rust_call"] = "the Rust, called"
     spelled["rust_loop"] = "the Rust, in the loop"
+    spelled["like"] = "decoding 78 and 79"
     spelled["stopping"] = "the stopping sweep"
     spelled["before"] = "the sweep before request A1"
     spelled["fast"] = "the fast archive"
@@ -57,9 +61,12 @@ kind != "bytes" { units[task, work] = $5; amount[kind, task, work, way] = $6 }
 
 function loop_of(way) { return way == "decode" ? "decode_loop" : "empty_loop" }
 
-# Whether there is something to compare with; a call that does nothing is shown once.
-function stands_beside(kind, work, other) {
+# Whether there is something to compare with; a call that does nothing is shown once. What the Rust does not decode stands beside 78 and 79,
+# which have two general operands too.
+function stands_beside(kind, task, work, other) {
     if (other == "empty_call") return work == "image"
+    if (other ~ /^rust_/) return (kind, task, work, other) in amount
+    if (other == "like") return !((kind, task, work, "rust_call") in amount)
     if (other == "stopping") return (kind, "sweep_stopping", work) in seen
     if (other == "before") return work in before
     return 1
@@ -70,7 +77,12 @@ function each(kind, task, work, way) {
     if (way == "fast") return each("insns", task, work, "rattle")
     if (way == "stopping") return each(kind, "sweep_stopping", work, "rattle")
     if (way == "before") return before[work]
-    return (amount[kind, task, work, way] - amount[kind, task, work, loop_of(way)]) / units[task, work]
+    if (way == "like") return (all(kind, task, "78", "rattle") + all(kind, task, "79", "rattle")) / (units[task, "78"] + units[task, "79"])
+    return all(kind, task, work, way) / units[task, work]
+}
+
+function all(kind, task, work, way) {
+    return amount[kind, task, work, way] - amount[kind, task, work, loop_of(way)]
 }
 
 function row(kind, task, work, other,  own, ratio) {
@@ -84,22 +96,28 @@ function row(kind, task, work, other,  own, ratio) {
 
 function judge(kind, task, work, other, ratio,  key) {
     key = kind " " task " " other
-    if (!(key in limit) || work !~ /^(image|codes|-)$/) return
+    if (!(key in limit) || work !~ (key in judged ? judged[key] : "^(image|codes|-)$")) return
     if (key in ratios) ratios[key] = ratios[key] ", "
     ratios[key] = ratios[key] sprintf("%.3f", ratio)
     if (ratio > limit[key]) missed[key]
 }
 
-function section(kind,  t, w, o, list, others) {
+function section(kind,  t, w, list) {
     print title[kind]
     for (t = 1; t in tasks; t++) {
         split(works[kind, tasks[t]], list, " ")
-        for (w = 1; w in list; w++) if (list[w] ~ rows) {
-            if (split(beside[kind " " tasks[t]], others, " ") == 0) row(kind, tasks[t], list[w], "")
-            for (o = 1; o in others; o++)
-                if (stands_beside(kind, list[w], others[o])) row(kind, tasks[t], list[w], others[o])
-        }
+        for (w = 1; w in list; w++) if (list[w] ~ rows) rows_of(kind, tasks[t], list[w])
     }
+}
+
+# A row for each that it stands beside, or one alone.
+function rows_of(kind, task, work,  o, others, shown) {
+    split(beside[kind " " task], others, " ")
+    for (o = 1; o in others; o++) if (stands_beside(kind, task, work, others[o])) {
+        row(kind, task, work, others[o])
+        shown = 1
+    }
+    if (!shown) row(kind, task, work, "")
 }
 
 # Each function, and all that one has; a blank where there is none.
@@ -141,6 +159,7 @@ END {
     judge("bytes", "decode", "-", "rust_3", amount["bytes", "decode", "-", "fast"] / amount["bytes", "decode", "-", "rust_3"])
     print "limits"
     verdict("insns decode rust_call", "  decoding, to the Rust called")
+    verdict("insns decode like", "  decoding what the Rust does not have, to decoding 78 and 79")
     verdict("insns encode decode", "  encoding, to decoding the same")
     verdict("insns sweep rust_call", "  the sweep, to the Rust called")
     verdict("insns sweep stopping", "  the sweep, to the stopping sweep")

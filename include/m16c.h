@@ -7,15 +7,24 @@
  * An instruction is a record of M16C_NUMBERS numbers; names are numbers too. The enumerators have the names as the listing spells them,
  * in upper case: Disp8_A0 is M16C_OPERAND_DISP8_A0. The number that belongs to an operand is in IMM_WIDE or in DISPABS; where two
  * operands need DISPABS, it has that of operand 0 if this is Disp8_SP, else that of operand 1, and FIRST has the other: m16c_operand_number
- * tells it, with its sign. MARKED is 1 where decoding departs from the maker's manual; no marked form is ever encoded. DROPPED is 1 where
- * a 20-bit number was read from three bytes of which the upper four bits, which are not kept, were not all zero; zeros are encoded there.
+ * tells it, with its sign. MARKED is 1 where decoding departs from the maker's manual; no marked form is ever encoded. It is 0 for A0 or A1
+ * on both sides of a byte's MOV, ADD and so on (72 to C0) and for a list of no registers, which the manual forbids and decoding accepts.
+ * DROPPED is 1 where a 20-bit number was read from three bytes of which the upper four bits, which are not kept, were not all zero; zeros
+ * are encoded there.
  *
- * The last six numbers tell which bytes of the instruction FIRST, DISPABS and IMM_WIDE were read from. An OFFSET counts from the
- * instruction's first byte. A WIDTH is 1, 2 or 3 bytes, of which the low one comes first; three hold 20 bits. Both are 0 where no byte
- * behind the second was read: there is no such number, or the code has it, as in INT. These bytes may be changed in place to any number of
- * that width: decoding gives the same record again, but for this number, and for DROPPED if there are three bytes. Encoding ignores the
- * six. They go by numbers, not by operands: in the marked rows 74 3x and 75 3x DISPABS is the source's displacement, operand 0's, although
- * the listing shows that number under operand 1, Disp8_SP. */
+ * Six numbers tell which bytes of the instruction FIRST, DISPABS and IMM_WIDE were read from. An OFFSET counts from the instruction's
+ * first byte. A WIDTH is 1, 2 or 3 bytes, of which the low one comes first; three hold 20 bits. Both are 0 where no byte behind the second
+ * was read: there is no such number, or the code has it, as in INT and PUSHM. These bytes may be changed in place to any number of that
+ * width: decoding gives the same record again, but for this number, and for DROPPED if there are three bytes. Encoding ignores the six.
+ * They go by numbers, not by operands: in the marked rows 74 3x and 75 3x DISPABS is the source's displacement, operand 0's, although the
+ * listing shows that number under operand 1, Disp8_SP.
+ *
+ * The list of PUSHM and of POPM is one byte, the number of RegList in IMM_WIDE, with a bit for each register. REGISTERS is how many
+ * registers the list names, so how many bits are one; 0 for the empty list, which is accepted, and in every other record. Encoding ignores
+ * it. POPM has the bits the other way round:
+ *          80 40 20 10 08 04 02 01
+ *   PUSHM  R0 R1 R2 R3 A0 A1 SB FB
+ *   POPM   FB SB A1 A0 R3 R2 R1 R0 */
 #ifndef M16C_H
 #define M16C_H
 
@@ -46,7 +55,7 @@ enum m16c_refusal {
     M16C_EXHAUSTED_INPUT = 1, /* decoding: the image ends inside the instruction; asked for a length: there are fewer than two bytes */
     M16C_INVALID_OPCODE = 2, /* decoding: no instruction has this code or this condition byte */
     M16C_INVALID_OPERAND = 3, /* decoding: the instruction does not take this operand */
-    M16C_FIRST_BYTE_OUTSIDE = 4, /* decoding: not one of the twelve first bytes that are decoded here */
+    M16C_FIRST_BYTE_OUTSIDE = 4, /* decoding: not one of the 34 first bytes that are decoded here */
     M16C_NO_STRING = 5, /* encoding: no bytes decode to this instruction, but for those of marked rows; asked for a number: there is none */
     M16C_TOO_LITTLE_ROOM = 6, /* what was passed in for the result is too short */
     M16C_IMAGE_TOO_LONG = 7 /* sweeping: the image is longer than 4,096 bytes */
@@ -73,7 +82,8 @@ enum m16c_number {
     M16C_DISPABS_WIDTH = 16,
     M16C_IMM_WIDE_OFFSET = 17,
     M16C_IMM_WIDE_WIDTH = 18,
-    M16C_NUMBERS = 19
+    M16C_REGISTERS = 19,
+    M16C_NUMBERS = 20
 };
 
 /* The width that decoding starts with, by the first byte. */
@@ -254,9 +264,9 @@ enum m16c_operand {
 /* End of what is made */
 
 /* Made by scripts/interface: functions */
-/* Decodes at a place of an image. Returns the refusal, 0 for none, and fills nineteen entries: taken, opcode, size, width, three
+/* Decodes at a place of an image. Returns the refusal, 0 for none, and fills twenty entries: taken, opcode, size, width, three
  * operands, imm_wide, dispabs, first, length, marked, dropped, then offset and width of the bytes that first, dispabs and imm_wide were
- * read from. With fewer than nineteen entries it returns 6 and touches none. */
+ * read from, and how many registers a list names. With fewer than twenty entries it returns 6 and touches none. */
 uint32_t m16c_decode(const uint8_t *image, size_t image_length, size_t at, uint32_t *out, size_t out_length);
 
 /* Encodes the record of the first twelve numbers that m16c_decode fills, from a place of a buffer on. Taken, length and marked do not

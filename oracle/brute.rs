@@ -1,5 +1,6 @@
-// An encoder by brute force over the Rust: every unmarked code, with a record's numbers filled in where the code reads them, is
-// decoded by the Rust; of the strings that say the same instruction the shortest is taken, then the first in byte order.
+// An encoder by brute force over decoding, the Rust's and for request A7's first bytes the model's: every unmarked code, with a record's
+// numbers filled in where the code reads them, is decoded; of the strings that say the same instruction the shortest is taken, then the
+// first in byte order.
 // No row is written down here. Which codes can name an instruction, and what their bytes are for, is found by trying.
 
 use std::collections::HashMap;
@@ -83,7 +84,8 @@ fn base(name: &str) -> &str {
 
 // ---- Marks
 
-/// Whether a code's row is starred, in the rules or by what docs/DIFFERENCES.md reports. Of a refused code it says nothing.
+/// Whether a code's row is starred, in the rules or by what docs/DIFFERENCES.md reports; of request A7's none is. Of a refused code it says
+/// nothing.
 pub fn marked(first: u8, second: u8) -> bool {
     let (h, n) = (second >> 4, second & 0xF);
     match first {
@@ -123,7 +125,7 @@ impl Spelling {
         self
     }
 
-    /// What the Rust decodes the whole string to.
+    /// What the whole string decodes to.
     fn key(&self) -> Option<Key> {
         let answer = expected(self.bytes());
         if answer.refusal != 0 || answer.fields[TAKEN] as usize != self.length {
@@ -139,7 +141,7 @@ impl Spelling {
 
 // ---- The search
 
-/// A string of the Rust's, and which of its bytes are those of a number.
+/// A string that is accepted, and which of its bytes are those of a number.
 struct Form {
     spelling: Spelling,
     holes: Vec<Hole>,

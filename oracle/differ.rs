@@ -1,6 +1,7 @@
-// The differential run: the port and the Rust on the same bytes, every field that the Rust has.
-// Here are the running, the counting and the decoder's strings; parts.rs, encoder.rs, sweeps.rs, lines.rs, lengths.rs, numbers.rs
-// and replayed.rs have the rest.
+// The differential run: the port and the Rust on the same bytes, every field that the Rust has; for request A7's first bytes the port and
+// the model, and the model and the Rust.
+// Here are the running, the counting and the decoder's strings; tabled.rs, parts.rs, encoder.rs, sweeps.rs, lines.rs, lengths.rs,
+// numbers.rs and replayed.rs have the rest.
 // usage: differ [--all]
 
 mod brute;
@@ -17,6 +18,7 @@ mod parts;
 mod places;
 mod replayed;
 mod sweeps;
+mod tabled;
 mod told;
 
 use std::env;
@@ -25,23 +27,29 @@ use std::process::ExitCode;
 use std::sync::atomic::{AtomicUsize, Ordering};
 use std::thread;
 
+use oracle::model;
 use parts::places_of;
-use places::Places;
 
 const THREADS: usize = 2;
-const FIRST_BYTES: [u8; 12] = [0x74, 0x75, 0x76, 0x77, 0x78, 0x79, 0x7A, 0x7B, 0x7C, 0x7D, 0x7E, 0xEB];
+#[rustfmt::skip]
+const FIRST_BYTES: [u8; 34] = [
+    0x72, 0x73, 0x74, 0x75, 0x76, 0x77, 0x78, 0x79, 0x7A, 0x7B, 0x7C, 0x7D, 0x7E,
+    0x80, 0x81, 0x88, 0x89, 0x90, 0x91, 0x98, 0x99, 0xA0, 0xA1, 0xA8, 0xA9, 0xB0, 0xB1, 0xB8, 0xB9, 0xC0, 0xC1,
+    0xEB, 0xEC, 0xED,
+];
 const SEED: u64 = 0x6D31_3663_2031_3938;
 const TOO_LITTLE_ROOM: u32 = 6;
 
 // ---- What is compared
 
-const FIELDS: usize = 19;
+const FIELDS: usize = 20;
 // An encoder wants so many of them; those behind do not count.
 const WANTED: usize = 12;
 #[rustfmt::skip]
 const FIELD_NAMES: [&str; FIELDS] = [
     "taken", "opcode", "size", "width", "operand 0", "operand 1", "operand 2", "imm_wide", "dispabs", "first", "length",
     "marked", "dropped", "first offset", "first width", "dispabs offset", "dispabs width", "imm_wide offset", "imm_wide width",
+    "registers",
 ];
 const TAKEN: usize = 0;
 const OPCODE: usize = 1;
@@ -56,6 +64,7 @@ const MARKED: usize = 11;
 const DROPPED: usize = 12;
 // Of `first`, of `dispabs` and of `imm_wide`; the width stands behind each.
 const OFFSETS: [usize; 3] = [13, 15, 17];
+const REGISTERS: usize = 19;
 
 #[derive(Clone, PartialEq, Eq)]
 struct Answer {
@@ -63,36 +72,56 @@ struct Answer {
     fields: [u32; FIELDS],
 }
 
-/// What the port has to answer: by the Rust; by places.rs where the numbers stand; by the bytes `first` and whether bits were dropped. The
-/// mark, of which none of them tells, is 0.
+/// What the port has to answer. The mark, of which neither the Rust nor the model tells, is 0.
 fn expected(bytes: &[u8]) -> Answer {
+    match model::decoded(bytes) {
+        Some(decoded) => by_the_model(&decoded),
+        None => by_the_rust(bytes),
+    }
+}
+
+fn by_the_model(decoded: &model::Decoded) -> Answer {
+    let mut answer = of_answer(&decoded.answer);
+    answer.fields[WIDTH] = decoded.width as u32;
+    set_places(&mut answer, decoded.parts);
+    answer
+}
+
+/// By places.rs where the numbers stand; by the bytes `first` and whether bits were dropped.
+fn by_the_rust(bytes: &[u8]) -> Answer {
     let rust = oracle::answer(bytes);
-    let accepted = rust.refusal == oracle::ACCEPTED;
-    let [op0, op1, op2] = rust.operands.map(u32::from);
-    let [first, dispabs, imm_wide] = if accepted { *places_of([bytes[0], bytes[1]]) } else { Places::default() };
-    Answer {
-        refusal: rust.refusal.into(),
-        fields: [
-            rust.taken as u32,
-            rust.opcode.into(),
-            rust.size.into(),
-            if accepted { width_number(bytes[0]) } else { 0 },
-            op0,
-            op1,
-            op2,
-            rust.imm_wide,
-            rust.dispabs.into(),
-            first.number(bytes),
-            rust.length.into(),
-            0,
-            u32::from(accepted && reads_20_bits(&rust.operands) && bytes[rust.taken - 1] >= 0x10),
-            first.offset,
-            first.width,
-            dispabs.offset,
-            dispabs.width,
-            imm_wide.offset,
-            imm_wide.width,
-        ],
+    let mut answer = of_answer(&rust);
+    if rust.refusal == oracle::ACCEPTED {
+        let places = places_of([bytes[0], bytes[1]]);
+        answer.fields[WIDTH] = width_number(bytes[0]);
+        answer.fields[FIRST] = places[0].number(bytes);
+        answer.fields[DROPPED] = u32::from(reads_20_bits(&rust.operands) && bytes[rust.taken - 1] >= 0x10);
+        set_places(&mut answer, places.map(|place| (place.offset, place.width)));
+    }
+    answer
+}
+
+/// Zeros in the fields that an answer of the oracle does not have.
+fn of_answer(of: &oracle::Answer) -> Answer {
+    let mut fields = [0; FIELDS];
+    fields[TAKEN] = of.taken as u32;
+    fields[OPCODE] = of.opcode.into();
+    fields[SIZE] = of.size.into();
+    for (field, operand) in OPERANDS.into_iter().zip(of.operands) {
+        fields[field] = operand.into();
+    }
+    fields[IMM_WIDE] = of.imm_wide;
+    fields[DISPABS] = of.dispabs.into();
+    fields[FIRST] = of.first.into();
+    fields[LENGTH] = of.length.into();
+    fields[REGISTERS] = of.registers.into();
+    Answer { refusal: of.refusal.into(), fields }
+}
+
+fn set_places(answer: &mut Answer, parts: [model::Part; 3]) {
+    for (field, (offset, width)) in OFFSETS.into_iter().zip(parts) {
+        answer.fields[field] = offset;
+        answer.fields[field + 1] = width;
     }
 }
 
@@ -122,10 +151,10 @@ fn decode_into(image: &[u8], at: usize, out: &mut [u32]) -> u32 {
     unsafe { c::m16c_decode(image.as_ptr(), image.len(), at, out.as_mut_ptr(), out.len()) }
 }
 
-/// The port's answer without the mark of an accepted one, if it is 0 or 1: the Rust does not have it.
-fn judged(rust: &Answer, port: &Answer) -> Answer {
+/// The port's answer without the mark of an accepted one, if it is 0 or 1: neither the Rust nor the model has it.
+fn judged(wanted: &Answer, port: &Answer) -> Answer {
     let mut judged = port.clone();
-    if rust.refusal == u32::from(oracle::ACCEPTED) && judged.fields[MARKED] <= 1 {
+    if wanted.refusal == u32::from(oracle::ACCEPTED) && judged.fields[MARKED] <= 1 {
         judged.fields[MARKED] = 0;
     }
     judged
@@ -151,10 +180,10 @@ struct Tally {
 impl Tally {
     /// Compares the answers for the bytes of `image` from `at` on.
     fn compare(&mut self, image: &[u8], at: usize) -> Answer {
-        let rust = expected(image.get(at..).unwrap_or(&[]));
+        let wanted = expected(image.get(at..).unwrap_or(&[]));
         let port = ported(image, at);
-        self.count(rust.refusal == 0, judged(&rust, &port) == rust, || describe(image, at, &rust, &port));
-        rust
+        self.count(wanted.refusal == 0, judged(&wanted, &port) == wanted, || describe(image, at, &wanted, &port));
+        wanted
     }
 
     /// One comparison: whether 0 is the right refusal, and whether the port answered right.
@@ -176,19 +205,20 @@ impl Tally {
     }
 }
 
-fn describe(image: &[u8], at: usize, rust: &Answer, port: &Answer) -> String {
-    let judged = judged(rust, port);
-    let mut text = format!("place {at} of {}\n", hex(image));
-    let mut line = |name: &str, rust: u32, port: u32, same: bool| {
+fn describe(image: &[u8], at: usize, wanted: &Answer, port: &Answer) -> String {
+    let judged = judged(wanted, port);
+    let by_model = image.get(at).is_some_and(|first| model::has(*first));
+    let mut text = format!("place {at} of {}, by the {}\n", hex(image), if by_model { "model" } else { "Rust" });
+    let mut line = |name: &str, wanted: u32, port: u32, same: bool| {
         let sign = if same { ' ' } else { '*' };
-        writeln!(text, "  {sign} {name:15} Rust {rust:8X}   port {port:8X}").unwrap();
+        writeln!(text, "  {sign} {name:15} wanted {wanted:8X}   port {port:8X}").unwrap();
     };
-    line("refusal", rust.refusal, port.refusal, rust.refusal == port.refusal);
+    line("refusal", wanted.refusal, port.refusal, wanted.refusal == port.refusal);
     for (field, name) in FIELD_NAMES.iter().enumerate() {
-        let wanted = rust.fields[field];
+        let wanted = wanted.fields[field];
         line(name, wanted, port.fields[field], wanted == judged.fields[field]);
     }
-    text += "  (in hex; the Rust has no `marked`: 0 is shown; nor `first`, `dropped`, offsets and widths: what the bytes say is shown)\n";
+    text += "  (in hex; of `marked` 0 is shown; the Rust has no `first`, `dropped`, offsets and widths: what the bytes say is shown)\n";
     text
 }
 
@@ -214,7 +244,7 @@ const CODES: usize = FIRST_BYTES.len() * 256;
 #[rustfmt::skip]
 const KINDS: &[Kind] = &[
     Kind { name: "0 to 3 bytes, every one", quick_parts: 257, all_parts: 257, run_part: short_strings },
-    Kind { name: "4 bytes, every one of the twelve first bytes", quick_parts: 0, all_parts: CODES, run_part: four_bytes },
+    Kind { name: "4 bytes, every one of the decoded first bytes", quick_parts: 0, all_parts: CODES, run_part: four_bytes },
     Kind { name: "5 to 9 bytes, at random", quick_parts: 100, all_parts: 1000, run_part: random_strings },
     Kind { name: "accepted, cut short", quick_parts: 100, all_parts: 1000, run_part: cut_strings },
     Kind { name: "accepted, one byte damaged", quick_parts: 100, all_parts: 1000, run_part: damaged_strings },
@@ -316,7 +346,7 @@ fn places_in_images(part: usize, tally: &mut Tally) {
     }
 }
 
-// Nineteen numbers are written or none, and none behind them. A part is a code.
+// All numbers are written or none, and nothing behind them. A part is a code.
 fn buffers(part: usize, tally: &mut Tally) {
     const LONGEST_BUFFER: usize = FIELDS + 3;
     let (first, second) = code_of(part);
@@ -403,7 +433,8 @@ impl Random {
 
 // ---- Running
 
-const TASKS: [(&str, &[Kind]); 8] = [
+const TASKS: [(&str, &[Kind]); 9] = [
+    ("the Rust's own table beside the model", tabled::KINDS),
     ("stored answers", replayed::KINDS),
     ("decode", KINDS),
     ("parts", parts::KINDS),

@@ -1,5 +1,5 @@
 
-// The oracle: each of the nine decoders above on a fresh record, with a reader that counts.
+// The oracle: each of the nine decoders above on a fresh record, with a reader that counts; model.rs where request A7 has the first byte.
 // `oracle/build` appends this file to the given text, because the decoders, the record's fields and `OperandSpec` are private to it.
 
 // Refusal numbers.
@@ -34,7 +34,7 @@ pub const OPERAND_NAMES: &[&str] = &[
     "RegList", "INTBL", "INTBH", "FLG", "ISP", "SP", "SB", "FB",
 ];
 
-/// What the Rust answers for one string of bytes; all zeros behind `taken` when it refuses.
+/// What has to be answered for one string of bytes; all zeros behind `taken` where it is refused.
 #[derive(Debug, Copy, Clone, PartialEq, Eq)]
 pub struct Answer {
     pub refusal: u8,
@@ -44,31 +44,91 @@ pub struct Answer {
     pub operands: [u8; 3],
     pub imm_wide: u32,
     pub dispabs: u16,
+    /// The earlier of two displacements, by the model. The nine decoders do not keep it: 0 for their codes.
+    pub first: u16,
     pub length: u8,
+    /// How many registers a list names, by the model.
+    pub registers: u8,
 }
 
-/// Decodes the instruction at the start of `bytes`. A panic of the given text comes through to the caller.
+/// Decodes the instruction at the start of `bytes`: by the model where request A7 has the first byte, else by the nine decoders. A panic of
+/// the given text comes through to the caller.
 pub fn answer(bytes: &[u8]) -> Answer {
+    match model::decoded(bytes) {
+        Some(decoded) => decoded.answer,
+        None => by_the_nine(bytes),
+    }
+}
+
+fn by_the_nine(bytes: &[u8]) -> Answer {
     let mut reader = CountingReader { bytes, taken: 0 };
     let mut inst = fresh();
-    let refusal = match decode_counted(&mut inst, &mut reader) {
-        Ok(()) => ACCEPTED,
-        Err(refusal) => {
-            inst = Instruction::default();
-            refusal
-        }
-    };
+    match decode_counted(&mut inst, &mut reader) {
+        Ok(()) => accepted(&inst, reader.taken),
+        Err(refusal) => refused(refusal, reader.taken),
+    }
+}
+
+fn accepted(inst: &Instruction, taken: usize) -> Answer {
     let (opcode, size) = opcode_and_size_numbers(inst.opcode);
     Answer {
-        refusal,
-        taken: reader.taken,
+        refusal: ACCEPTED,
+        taken,
         opcode,
         size,
         operands: inst.operands.map(operand_number),
         imm_wide: inst.imm_wide,
         dispabs: inst.dispabs,
+        first: 0,
         length: inst.length,
+        registers: 0,
     }
+}
+
+fn refused(refusal: u8, taken: usize) -> Answer {
+    Answer { refusal, taken, opcode: 0, size: 0, operands: [0; 3], imm_wide: 0, dispabs: 0, first: 0, length: 0, registers: 0 }
+}
+
+/// What the crate's own first-byte table makes of a string that begins with one of request A7's first bytes, in the project's record. The
+/// crate counts no registers: 0.
+pub fn by_the_table(bytes: &[u8]) -> Answer {
+    let mut reader = CountingReader { bytes, taken: 0 };
+    let mut inst = Instruction::default(); // the table counts the first byte itself
+    match InstDecoder::default().decode_into(&mut inst, &mut reader) {
+        Ok(()) => mapped(inst, reader.taken),
+        Err(error) => refused(refusal_number(error), reader.taken),
+    }
+}
+
+/// The one mapping from the crate's record to the project's, for codes of request A7. The crate has room for one displacement in `dispabs`,
+/// operand 0's; it keeps operand 1's in `imm_wide`, under names that say so. And it turns the list of POPM round, which A7 does not.
+fn mapped(mut inst: Instruction, taken: usize) -> Answer {
+    let plain = plain_name(inst.operands[1]);
+    inst.operands[1] = plain.unwrap_or(inst.operands[1]);
+    let answer = accepted(&inst, taken);
+    match (plain, inst.opcode) {
+        (Some(_), _) => {
+            assert!(inst.imm_wide <= 0xFFFF, "a displacement has two bytes at most");
+            Answer { imm_wide: 0, dispabs: inst.imm_wide as u16, first: inst.dispabs, ..answer }
+        }
+        (None, Opcode::POPM) => Answer { imm_wide: u32::from((inst.imm_wide as u8).reverse_bits()), ..answer },
+        _ => answer,
+    }
+}
+
+/// The name of an operand whose displacement the crate keeps in `imm_wide`; none of any other.
+fn plain_name(operand: OperandSpec) -> Option<OperandSpec> {
+    Some(match operand {
+        OperandSpec::Disp2_8_A0 => OperandSpec::Disp8_A0,
+        OperandSpec::Disp2_8_A1 => OperandSpec::Disp8_A1,
+        OperandSpec::Disp2_8_SB => OperandSpec::Disp8_SB,
+        OperandSpec::Disp2_8_FB => OperandSpec::Disp8_FB,
+        OperandSpec::Disp2_16_A0 => OperandSpec::Disp16_A0,
+        OperandSpec::Disp2_16_A1 => OperandSpec::Disp16_A1,
+        OperandSpec::Disp2_16_SB => OperandSpec::Disp16_SB,
+        OperandSpec::Abs2_16 => OperandSpec::Abs16,
+        _ => return None,
+    })
 }
 
 // What a decoder is given to fill in: the first byte is counted by whoever chose the decoder by it.
@@ -148,7 +208,7 @@ macro_rules! number {
     };
 }
 
-// Names without a number belong to first bytes outside the nine decoders. The bench takes that on trust (`--cfg trusted_names`):
+// Names without a number belong to first bytes that are not decoded here. The bench takes that on trust (`--cfg trusted_names`):
 // the port's record has no such names, so the Rust would be measured with a test that the port has no need of.
 macro_rules! without_number {
     ($what:literal, $name:expr) => {

@@ -1,4 +1,4 @@
-// The encoder's part of the differential run: the port's `m16c_encode` beside the brute force over the Rust.
+// The encoder's part of the differential run: the port's `m16c_encode` beside the brute force of brute.rs.
 
 use std::fmt::Write;
 
@@ -113,11 +113,11 @@ fn compare_by_brute_force(tally: &mut Tally, record: &Record) {
     compare(tally, record, brute::encode(record), WIDE_ROOM);
 }
 
-/// The record of a string that the Rust accepts to its last byte. The string itself, if unmarked, must not be better than what
+/// The record of a string that is accepted to its last byte. The string itself, if unmarked, must not be better than what
 /// the brute force found: so that is checked against every string compared.
 fn compare_string(tally: &mut Tally, string: &[u8]) {
-    let rust = expected(string);
-    if rust.refusal != 0 || rust.fields[TAKEN] as usize != string.len() {
+    let wanted = expected(string);
+    if wanted.refusal != 0 || wanted.fields[TAKEN] as usize != string.len() {
         return;
     }
     let record = ported(string, 0).fields;

@@ -2,25 +2,35 @@
 
 use std::collections::BTreeSet;
 
-use oracle::answer;
+use oracle::{answer, model};
 
-use crate::known::{reading_most, READS_MUCH, RULES_IMAGE};
+use crate::known::{reading_most, READS_ALL, READS_MUCH, RULES_IMAGE};
 use crate::stored::packed_hex;
 
 const MOST_BYTES: usize = 16;
 
-// Every so many strings of the stored list give an instruction, so that neighbours in an image are not alike.
+// Every so many strings of the stored list give an instruction, so that neighbours in an image are not alike; of request A7's codes, which
+// are many and much alike, fewer.
 const STEP: usize = 23;
+const PAIRS_STEP: usize = 101;
 
 // And of the codes that are refused every so many.
 const REFUSED_STEP: usize = 7;
 
-// Put in among instructions: one that begins none, and three that take the bytes behind them.
-const DATA_BYTES: [u8; 4] = [0x04, 0x74, 0x7C, 0xEB];
+// Put in among instructions: one that begins none, and others that take the bytes behind them.
+const DATA_BYTES: [u8; 6] = [0x04, 0x74, 0x7C, 0xEB, 0x72, 0xED];
 
-// Refused with 2, 3, 3, 2, 1 and 1. In the last four the refused place took bytes of the instruction behind it.
-const REFUSED_BEFORE_INT: [&[u8]; 6] =
-    [&[0x7C, 0x7F], &[0x74, 0x63], &[0x78, 0x83], &[0x7E, 0x20], &[0x74, 0x0F], &[0x74, 0x0F, 0x34]];
+// Refused with 2, 3, 3, 2, 1, 1, 1 and 3. In all but the first two the refused place took bytes of the instruction behind it.
+const REFUSED_BEFORE_INT: [&[u8]; 8] = [
+    &[0x7C, 0x7F],
+    &[0x74, 0x63],
+    &[0x78, 0x83],
+    &[0x7E, 0x20],
+    &[0x74, 0x0F],
+    &[0x74, 0x0F, 0x34],
+    &[0xA1, 0xCF],
+    &[0x78, 0xC1],
+];
 const INT: [u8; 2] = [0xEB, 0xC5];
 
 // Refused with 2 after five bytes, and after five and four; with 3 after four.
@@ -38,7 +48,9 @@ const RANDOM_IMAGES: usize = 32;
 pub fn list(strings: &[Vec<u8>]) -> String {
     let mut listed = BTreeSet::new();
     let mut new = |images: Vec<Vec<u8>>| -> Vec<Vec<u8>> { images.into_iter().filter(|image| listed.insert(image.clone())).collect() };
-    let images = new([cuts(&RULES_IMAGE), made_of(strings), reading_much()].concat());
+    let (pairs, others): (Vec<&Vec<u8>>, Vec<&Vec<u8>>) = strings.iter().partition(|string| is_of_a_code_of_a7(string));
+    let made = [made_of(others.into_iter().step_by(STEP)), made_of(pairs.into_iter().step_by(PAIRS_STEP))].concat();
+    let images = new([cuts(&RULES_IMAGE), made, reading_much()].concat());
     let more = new(mixed(strings));
     let stopping = images.iter().map(|image| stopping_line(image));
     let going_on = images.iter().chain(&more).map(|image| going_on_line(image));
@@ -50,12 +62,28 @@ fn cuts(image: &[u8]) -> Vec<Vec<u8>> {
     (0..=image.len()).map(|length| image[..length].to_vec()).collect()
 }
 
+/// Not of these are request A7's first bytes alone or with one certain byte behind: such strings every byte has that begins nothing.
+fn is_of_a_code_of_a7(string: &[u8]) -> bool {
+    match *string {
+        [first, ref behind @ ..] if model::has(first) => !behind.is_empty() && *behind != [!first],
+        _ => false,
+    }
+}
+
+/// What a string gives to an image: the bytes that decoding takes. Request A7's first bytes stand alone among the others' instructions.
+fn piece(string: &[u8]) -> &[u8] {
+    match *string {
+        [first, ..] if model::has(first) && !is_of_a_code_of_a7(string) => &string[..1],
+        _ => &string[..answer(string).taken],
+    }
+}
+
 /// Images of whole instructions, each also with a byte cut off.
-fn made_of(strings: &[Vec<u8>]) -> Vec<Vec<u8>> {
+fn made_of<'a>(strings: impl Iterator<Item = &'a Vec<u8>>) -> Vec<Vec<u8>> {
     let mut images = vec![];
     let mut image = vec![];
-    for string in strings.iter().step_by(STEP) {
-        let instruction = &string[..answer(string).taken];
+    for string in strings {
+        let instruction = piece(string);
         if image.len() + instruction.len() > MOST_BYTES {
             images.push(image[..image.len() - 1].to_vec());
             images.push(std::mem::take(&mut image));
@@ -68,7 +96,8 @@ fn made_of(strings: &[Vec<u8>]) -> Vec<Vec<u8>> {
 /// Going on reads many of their bytes more than once.
 fn reading_much() -> Vec<Vec<u8>> {
     let late = REFUSED_LATE.map(|refused| refused.to_vec());
-    [cuts(&READS_MUCH), vec![reading_most(MOST_BYTES)], late.to_vec()].concat()
+    let most = [MOST_BYTES, MOST_BYTES - 1].map(reading_most);
+    [cuts(&READS_MUCH), cuts(&READS_ALL), most.to_vec(), late.to_vec()].concat()
 }
 
 /// Images in which refused places stand between instructions, or nothing else stands.
@@ -80,6 +109,7 @@ fn mixed(strings: &[Vec<u8>]) -> Vec<Vec<u8>> {
     images.extend(behind_refused(strings));
     images.extend(overlapping(&firsts));
     images.extend(at_random(&firsts));
+    images.extend(at_random(&firsts.into_iter().filter(|first| !model::has(*first)).collect::<Vec<u8>>()));
     images
 }
 

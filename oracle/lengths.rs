@@ -1,4 +1,4 @@
-// The part of lengths in the differential run: the port's `m16c_length` beside told.rs, which asks nothing but the Rust.
+// The part of lengths in the differential run: the port's `m16c_length` beside told.rs, which does not ask the port.
 
 use std::ptr::null;
 
@@ -27,7 +27,7 @@ pub fn compare(tally: &mut Tally, bytes: &[u8], wanted: &Result<Told, String>) {
     count(tally, bytes, wanted, ported(bytes.as_ptr(), bytes.len()));
 }
 
-/// It is a difference too, however the port answers, if the Rust has no one answer.
+/// It is a difference too, however the port answers, if there is no one answer for all tails.
 fn count(tally: &mut Tally, bytes: &[u8], wanted: &Result<Told, String>, port: Told) {
     let accepted = matches!(wanted, Ok(told) if told.refusal == 0);
     tally.count(accepted, *wanted == Ok(port), || format!("length of {}\n  wanted {wanted:?}\n  port   {port:?}\n", hex(bytes)));

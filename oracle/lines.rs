@@ -1,4 +1,4 @@
-// The line's part of the differential run: the port's `m16c_line` beside a line put together from what the Rust answers.
+// The line's part of the differential run: the port's `m16c_line` beside a line put together from what the oracle answers.
 
 use crate::operands::{is_signed, number_of};
 use crate::{c, code_of, expected, hex, twenty_bit_strings, Kind, Random, Tally, CODES, TOO_LITTLE_ROOM};
@@ -66,12 +66,12 @@ fn line(at: usize, record: &[u32]) -> String {
 }
 
 fn wanted(image: &[u8], at: usize, room: usize) -> Outcome {
-    let rust = expected(image.get(at..).unwrap_or(&[]));
-    let mut outcome = Outcome { refusal: rust.refusal, length: 0, buffer: [UNTOUCHED; BUFFER] };
-    if rust.refusal != 0 {
+    let decoded = expected(image.get(at..).unwrap_or(&[]));
+    let mut outcome = Outcome { refusal: decoded.refusal, length: 0, buffer: [UNTOUCHED; BUFFER] };
+    if decoded.refusal != 0 {
         return outcome;
     }
-    let line = line(at, &rust.fields);
+    let line = line(at, &decoded.fields);
     if line.len() > room {
         outcome.refusal = TOO_LITTLE_ROOM;
     } else {

@@ -89,6 +89,9 @@ fn answer_line(bytes: &[u8]) -> String {
             answer.length
         );
     }
+    if answer.refusal == oracle::ACCEPTED && oracle::model::has(bytes[0]) {
+        line += &format!(" first {:X} registers {}", answer.first, answer.registers);
+    }
     line + "\n"
 }
 

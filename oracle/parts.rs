@@ -1,5 +1,5 @@
-// The part of places in the differential run: where the port says that the numbers stand beside places.rs, which asks nothing but the
-// Rust; and what the port answers if other bytes are written there.
+// The part of places in the differential run: where the port says that the numbers stand beside places.rs, which does not ask the port;
+// and what the port answers if other bytes are written there.
 
 use std::sync::OnceLock;
 
@@ -20,7 +20,8 @@ fn strings(part: usize) -> impl Iterator<Item = [u8; 7]> {
     tails(code).into_iter().map(move |tail| behind(code, tail))
 }
 
-/// By the bytes of the very string. It is a difference too, however the port answers, if the Rust does not read as the request has it.
+/// By the bytes of the very string. It is a difference too, however the port answers, if the Rust or the model does not read as the request
+/// has it.
 fn every_code(part: usize, tally: &mut Tally) {
     for string in strings(part) {
         let (wanted, port) = (found(&string), told(&ported(&string, 0)));

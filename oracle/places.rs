@@ -1,10 +1,11 @@
-// Where the numbers of an instruction stand, by request A5, found from the Rust's decoding alone: it is asked again with bits of each byte
-// behind the second flipped, and the field that changes is the one that the byte was read for. The Rust does not keep the earlier of two
-// displacements: a byte that changes nothing is one of `first`.
+// Where the numbers of an instruction stand, by request A5, found from decoding alone, the Rust's or for request A7's first bytes the
+// model's: it is asked again with bits of each byte behind the second flipped, and the field that changes is the one that the byte was read
+// for. The Rust's nine decoders do not keep the earlier of two displacements: a byte of theirs that changes nothing is one of `first`. The
+// model keeps it, so a byte that changes nothing there would be read for nothing; and it says itself where its numbers stand.
 
 use std::ops::Range;
 
-use oracle::{answer, Answer, ACCEPTED};
+use oracle::{answer, model, Answer, ACCEPTED};
 
 /// The bytes of a number, from an instruction's first byte on; zeros if no byte behind the second was read for it.
 #[derive(Debug, Clone, Copy, Default, PartialEq, Eq)]
@@ -36,13 +37,13 @@ enum Use {
     Condition,
 }
 
-/// Zeros of what is refused. An error where the Rust does not read as the request has it.
+/// Zeros of what is refused. An error where decoding does not read as the request has it.
 pub fn found(string: &[u8]) -> Result<Places, String> {
-    let rust = answer(string);
-    if rust.refusal != ACCEPTED {
+    let plain = answer(string);
+    if plain.refusal != ACCEPTED {
         return Ok(Places::default());
     }
-    let uses: Vec<Use> = (2..rust.taken).map(|place| use_of(string, &rust, place)).collect::<Result<_, _>>()?;
+    let uses: Vec<Use> = (2..plain.taken).map(|place| use_of(string, &plain, place)).collect::<Result<_, _>>()?;
     let conditions = uses.iter().filter(|found| **found == Use::Condition).count();
     if conditions != usize::from(has_condition(string)) {
         return Err(format!("{string:02X?}: {conditions} bytes are read for no number"));
@@ -50,8 +51,20 @@ pub fn found(string: &[u8]) -> Result<Places, String> {
     let places = [place_of(&uses, Use::First)?, place_of(&uses, Use::Dispabs)?, place_of(&uses, Use::ImmWide)?];
     let [_, dispabs, imm_wide] = places;
     let in_code = imm_wide.width == 0;
-    if dispabs.number(string) != u32::from(rust.dispabs) || !in_code && imm_wide.number(string) != rust.imm_wide {
-        return Err(format!("{string:02X?}: the bytes at {places:X?} are not the Rust's numbers"));
+    if dispabs.number(string) != u32::from(plain.dispabs) || !in_code && imm_wide.number(string) != plain.imm_wide {
+        return Err(format!("{string:02X?}: the bytes at {places:X?} are not the numbers decoded"));
+    }
+    match model::decoded(string) {
+        Some(decoded) => as_said(places, string, &decoded),
+        None => Ok(places),
+    }
+}
+
+/// The same places, if the model says so too and keeps in `first` what stands there.
+fn as_said(places: Places, string: &[u8], decoded: &model::Decoded) -> Result<Places, String> {
+    let found = places.map(|place| (place.offset, place.width));
+    if found != decoded.parts || places[0].number(string) != u32::from(decoded.answer.first) {
+        return Err(format!("{string:02X?}: found {found:X?}, the model says {decoded:X?}"));
     }
     Ok(places)
 }
@@ -61,24 +74,25 @@ fn has_condition(string: &[u8]) -> bool {
     string[0] == 0x7E && string[1] >> 4 == 2
 }
 
-fn use_of(string: &[u8], rust: &Answer, place: usize) -> Result<Use, String> {
+fn use_of(string: &[u8], plain: &Answer, place: usize) -> Result<Use, String> {
     let flipped = |bit: u32| {
         let mut other = string.to_vec();
         other[place] ^= 1 << bit;
         answer(&other)
     };
     let answers: Vec<Answer> = (0..8).map(flipped).collect();
-    let names = |answer: &Answer| (answer.refusal, answer.opcode, answer.size, answer.operands, answer.length);
-    if answers.iter().any(|answer| names(answer) != names(rust)) {
+    let names = |answer: &Answer| (answer.refusal, answer.opcode, answer.size, answer.operands, answer.length, answer.registers);
+    if answers.iter().any(|answer| names(answer) != names(plain)) {
         return Ok(Use::Condition);
     }
-    let changes_dispabs = answers.iter().any(|answer| answer.dispabs != rust.dispabs);
-    let changes_imm_wide = answers.iter().any(|answer| answer.imm_wide != rust.imm_wide);
-    match (changes_dispabs, changes_imm_wide) {
-        (false, false) => Ok(Use::First),
-        (true, false) => Ok(Use::Dispabs),
-        (false, true) => Ok(Use::ImmWide),
-        (true, true) => Err(format!("{string:02X?}: byte {place} is read for two numbers")),
+    let changes = |number: fn(&Answer) -> u32| answers.iter().any(|answer| number(answer) != number(plain));
+    let keeps_first = model::has(string[0]);
+    match (changes(|answer| answer.first.into()), changes(|answer| answer.dispabs.into()), changes(|answer| answer.imm_wide)) {
+        (false, false, false) if keeps_first => Err(format!("{string:02X?}: byte {place} is read for nothing")),
+        (false, false, false) | (true, false, false) => Ok(Use::First),
+        (false, true, false) => Ok(Use::Dispabs),
+        (false, false, true) => Ok(Use::ImmWide),
+        _ => Err(format!("{string:02X?}: byte {place} is read for two numbers")),
     }
 }
 

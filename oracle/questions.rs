@@ -1,4 +1,4 @@
-// The stored example of the program that tells lengths: questions, and the Rust's answers by told.rs.
+// The stored example of the program that tells lengths: questions, and their answers by told.rs.
 
 use oracle::{answer, FIRST_BYTE_OUTSIDE};
 

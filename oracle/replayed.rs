@@ -8,7 +8,7 @@ use crate::sweeps::{self, Rule, Swept, NO_START};
 use crate::numbers as asked;
 use crate::told::Told;
 use crate::{hex, ported, record_of, Kind, Tally, FIELDS};
-use crate::{DISPABS, DROPPED, FIRST, IMM_WIDE, LENGTH, MARKED, OFFSETS, OPCODE, OPERANDS, SIZE, TAKEN, WIDTH};
+use crate::{DISPABS, DROPPED, FIRST, IMM_WIDE, LENGTH, MARKED, OFFSETS, OPCODE, OPERANDS, REGISTERS, SIZE, TAKEN, WIDTH};
 
 #[rustfmt::skip]
 pub const KINDS: &[Kind] = &[
@@ -67,7 +67,7 @@ fn strings(_part: usize, tally: &mut Tally) {
         wanted[LENGTH] = number(length);
         let string = bytes(string, number(count));
         let mut port = ported(&string, 0);
-        // What the Rust does not have is not stored.
+        // What the Rust does not have is not stored in these lines.
         for free in [WIDTH, FIRST, MARKED].into_iter().chain(DROPPED..FIELDS) {
             port.fields[free] = 0;
         }
@@ -148,15 +148,18 @@ fn operands(_part: usize, tally: &mut Tally) {
 
 fn places(_part: usize, tally: &mut Tally) {
     for words in lines(|first| first == 'P') {
-        let [count, string, refusal, first, dispabs, imm_wide, ..] = words[..] else {
-            panic!("a stored string with places has six words: {words:?}");
+        let [count, string, refusal, first, dispabs, imm_wide, registers, ..] = words[..] else {
+            panic!("a stored string with places has seven words: {words:?}");
         };
         let string = bytes(string, number(&count[1..]));
         let port = ported(&string, 0);
         let wanted = [first, dispabs, imm_wide].map(|place| numbers(place, [1, 1]));
         let told = OFFSETS.map(|at| [port.fields[at], port.fields[at + 1]]);
-        let same = port.refusal == number(refusal) && told == wanted;
-        tally.count(number(refusal) == 0, same, || format!("{}\n  stored {words:?}\n  port {} {told:X?}\n", hex(&string), port.refusal));
+        let found = port.fields[REGISTERS];
+        let same = port.refusal == number(refusal) && told == wanted && found == number(registers);
+        tally.count(number(refusal) == 0, same, || {
+            format!("{}\n  stored {words:?}\n  port {} {told:X?} registers {found:X}\n", hex(&string), port.refusal)
+        });
     }
 }
 

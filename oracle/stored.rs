@@ -3,7 +3,7 @@
 use std::collections::BTreeSet;
 use std::fmt::Write;
 
-use oracle::answer;
+use oracle::{answer, model};
 
 use crate::{asked, images, odd, placed};
 
@@ -61,7 +61,9 @@ fn strings() -> BTreeSet<Vec<u8>> {
 }
 
 fn strings_of_code(code: [u8; 2]) -> Vec<Vec<u8>> {
-    let mut strings: Vec<Vec<u8>> = WHOLE_TAILS.iter().map(|tail| [&code, &tail[..]].concat()).collect();
+    // No code of request A7 is refused with enough bytes, so that its cut tail is accepted too: one whole tail beside it is enough.
+    let tails = if model::has(code[0]) { &WHOLE_TAILS[..1] } else { &WHOLE_TAILS[..] };
+    let mut strings: Vec<Vec<u8>> = tails.iter().map(|tail| [&code, &tail[..]].concat()).collect();
     let whole = [&code, &CUT_TAIL[..]].concat();
     // Cuts with two or more bytes to spare would only repeat each other.
     let longest_cut = (answer(&whole).taken + 1).min(whole.len() - 1);

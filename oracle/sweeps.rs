@@ -1,4 +1,4 @@
-// The sweep's part of the differential run: the port's `m16c_sweep` and `m16c_sweep_stopping` beside the Rust asked again and again.
+// The sweep's part of the differential run: the port's `m16c_sweep` and `m16c_sweep_stopping` beside the oracle asked again and again.
 
 use crate::c::{self, LONGEST_IMAGE};
 use crate::known::{reading_most, RULES_IMAGE};
@@ -55,10 +55,10 @@ fn repeated(rule: Rule, image: &[u8], room: usize) -> Swept {
         return Swept { refusal: TOO_LITTLE_ROOM, ..swept };
     }
     while swept.place < image.len() {
-        let rust = expected(&image[swept.place..]);
-        let taken = rust.fields[TAKEN] as usize;
+        let decoded = expected(&image[swept.place..]);
+        let taken = decoded.fields[TAKEN] as usize;
         swept.read += taken;
-        match (rust.refusal, rule) {
+        match (decoded.refusal, rule) {
             (0, _) => {
                 swept.starts[swept.count] = swept.place as u16;
                 swept.count += 1;
@@ -96,20 +96,20 @@ fn compare(tally: &mut Tally, image: &[u8]) {
     }
 }
 
-/// The port with the Rust, and what the Rust reads with the most that any sweep does.
+/// The port with the oracle, and what the oracle reads with the most that any sweep does.
 fn compare_by(tally: &mut Tally, rule: Rule, image: &[u8], room: usize) {
-    let (rust, port) = (repeated(rule, image, room), ported(rule, image, room));
+    let (wanted, port) = (repeated(rule, image, room), ported(rule, image, room));
     let most = most_read(rule, image.len());
-    tally.count(rust.refusal == 0, rust == port && rust.read <= most, || {
-        let passed = if rust.read > most { format!("the Rust reads {} bytes, over {most}: ", rust.read) } else { String::new() };
-        format!("{passed}{rule:?}, room for {room} starts, image {}\n  Rust {rust:X?}\n  port {port:X?}\n", hex(image))
+    tally.count(wanted.refusal == 0, wanted == port && wanted.read <= most, || {
+        let passed = if wanted.read > most { format!("decoding reads {} bytes, over {most}: ", wanted.read) } else { String::new() };
+        format!("{passed}{rule:?}, room for {room} starts, image {}\n  wanted {wanted:X?}\n  port   {port:X?}\n", hex(image))
     });
 }
 
 /// Request A13: no sweep reads more bytes of an image this long. `reading_most` has images of which so many are read.
 fn most_read(rule: Rule, length: usize) -> usize {
     match rule {
-        Rule::GoOn => (3 * length).saturating_sub(1),
+        Rule::GoOn => 3 * length,
         Rule::Stop => length,
     }
 }
@@ -260,12 +260,12 @@ fn late_refusals(length: usize, codes: &[[u8; 2]], random: &mut Random) -> Vec<u
     image
 }
 
-/// Codes that the Rust refuses after four bytes or five, where these are no conditions.
+/// Codes that are refused after four bytes or five, where these are no conditions.
 fn late_codes() -> Vec<[u8; 2]> {
     const NO_CONDITION: u8 = 0x07;
     let is_late = |code: &[u8; 2]| {
-        let rust = expected(&[code, &[NO_CONDITION; 5][..]].concat());
-        rust.refusal != 0 && rust.fields[TAKEN] >= 4
+        let decoded = expected(&[code, &[NO_CONDITION; 5][..]].concat());
+        decoded.refusal != 0 && decoded.fields[TAKEN] >= 4
     };
     (0..CODES).map(|code| code_of(code).into()).filter(is_late).collect()
 }
@@ -277,8 +277,8 @@ fn images_read_most(_part: usize, tally: &mut Tally) {
 }
 
 // Some first bytes; then second bytes that make long instructions and late refusals of them.
-const SOME_BYTES: [u8; 11] = [0x74, 0x76, 0x78, 0x7A, 0x7D, 0x7E, 0xEB, 0x00, 0x0C, 0x2C, 0xC3];
-const SOME_FIRSTS: usize = 7;
+const SOME_BYTES: [u8; 14] = [0x74, 0x76, 0x78, 0x7A, 0x7D, 0x7E, 0xEB, 0x88, 0xC1, 0xEC, 0x00, 0x0C, 0x2C, 0xC3];
+const SOME_FIRSTS: usize = 10;
 
 /// A part is the first byte.
 fn short_images(part: usize, tally: &mut Tally) {

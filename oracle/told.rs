@@ -1,4 +1,5 @@
-// The length that the first two bytes tell, by request A4, found from the Rust's decoding alone: it is asked about them with many tails.
+// The length that the first two bytes tell, by request A4, found from decoding alone, the Rust's or for request A7's first bytes the
+// model's: it is asked about them with many tails.
 
 use std::collections::BTreeSet;
 
@@ -16,11 +17,11 @@ pub struct Told {
     pub length: usize,
 }
 
-/// Of the first two bytes, or of fewer. An error where the Rust has no one answer for all tails: then the request asks for what is not so.
+/// Of the first two bytes, or of fewer. An error where decoding has no one answer for all tails: then the request asks for what is not so.
 pub fn told(bytes: &[u8]) -> Result<Told, String> {
     match *bytes {
         [first, second, ..] => told_by_tails([first, second]),
-        _ => Ok(decoded(bytes)), // the Rust, too, looks at the first byte before it runs out of bytes
+        _ => Ok(decoded(bytes)), // decoding, too, looks at the first byte before it runs out of bytes
     }
 }
 
@@ -38,8 +39,8 @@ fn told_by_tails(code: [u8; 2]) -> Result<Told, String> {
 }
 
 fn decoded(bytes: &[u8]) -> Told {
-    let rust = answer(bytes);
-    Told { refusal: rust.refusal.into(), length: rust.length.into() }
+    let answer = answer(bytes);
+    Told { refusal: answer.refusal.into(), length: answer.length.into() }
 }
 
 pub fn behind([first, second]: [u8; 2], [a, b, c, d, e]: Tail) -> [u8; 7] {

@@ -4,16 +4,18 @@
 
 BEGIN { ALL = "all" }
 
-function classify(   map, high, low, code) {
-    for (map = 1; map <= MAPS; map++)
+function classify(   k, high, low) {
+    for (k = 1; k <= FIRSTS; k++)
         for (high = 0; high < 16; high++)
-            for (low = 0; low < 16; low++) {
-                code = code_at(map, high, low)
-                class_of[code] = judged(code)
-                count[map, class_of[code]]++
-                count[ALL, class_of[code]]++
-                ending[end_of(code)]++
-            }
+            for (low = 0; low < 16; low++)
+                classify_code(first_byte[k], code_at(first_byte[k], high, low))
+}
+
+function classify_code(first, code) {
+    class_of[code] = judged(code)
+    count[first, class_of[code]]++
+    count[ALL, class_of[code]]++
+    ending[end_of(code)]++
 }
 
 function judged(code,   class) {

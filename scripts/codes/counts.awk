@@ -16,9 +16,11 @@ function hold(what, found, wanted) {
         stop(what ": " found ", and there should be " wanted)
 }
 
-function check_counts(   map) {
-    for (map = 1; map <= MAPS; map++)
-        hold("codes of " first_byte[map], counted(map, "123456"), 256)
+function check_counts(   k, first) {
+    for (k = 1; k <= FIRSTS; k++)
+        hold("codes of " first_byte[k], counted(first_byte[k], "123456"), 256)
+    for (first in rule_of)
+        hold("codes of " first ", which has a line in docs/manual", counted(first, "123456"), 256)
     hold("accepted codes", counted(ALL, "1234"), proved("countCodes (ends 0)"))
     hold("marked codes", counted(ALL, "34"), proved("countCodes (λ a b. both (ends 0 a b) (markedAt a b))"))
     hold("codes refused with 2", ending[2], proved("countCodes (ends 2)"))
@@ -28,9 +30,9 @@ function check_counts(   map) {
     hold("refused codes with a meaning", counted(ALL, "5"), proved("countCodes (listedIn refusedCode)"))
 }
 
-# How many codes of a map are in these classes, a digit each.
-function counted(map, classes,   i, sum) {
+# How many codes of a first byte, or all, are in these classes, a digit each.
+function counted(first, classes,   i, sum) {
     for (i = 1; i <= length(classes); i++)
-        sum += count[map, substr(classes, i, 1)]
+        sum += count[first, substr(classes, i, 1)]
     return sum + 0
 }

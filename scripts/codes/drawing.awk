@@ -8,6 +8,8 @@ BEGIN {
     NAMES = 44 # right of it
     GAP = 18 # between maps that stand side by side
     ABOVE = 40 # a map's heading and labels
+    MORE = 20 # above a map that first bytes share
+    NAMED = 5 # first bytes in a line of its heading
     BELOW = 24
     ACROSS = 4
     MAPS_TOP = 260
@@ -15,15 +17,18 @@ BEGIN {
 }
 
 function draw(   map) {
-    HEIGHT = MAPS_TOP + int((MAPS + ACROSS - 1) / ACROSS) * (ABOVE + GRID + BELOW) - BELOW + MARGIN
+    HEIGHT = map_top(MAPS) + ABOVE + GRID + MARGIN
     open_picture()
     define_cells()
     draw_title()
     draw_legend()
     for (map = 1; map <= MAPS; map++)
-        draw_map(map, MARGIN + (map - 1) % ACROSS * (LABELS + GRID + NAMES + GAP), \
-            MAPS_TOP + int((map - 1) / ACROSS) * (ABOVE + GRID + BELOW))
+        draw_map(map, MARGIN + (map - 1) % ACROSS * (LABELS + GRID + NAMES + GAP), map_top(map))
     print "</svg>"
+}
+
+function map_top(map) {
+    return MAPS_TOP + int((map - 1) / ACROSS) * (ABOVE + GRID + BELOW) + is_shared(map) * MORE
 }
 
 function open_picture() {
@@ -77,8 +82,9 @@ function cell(class, x, y) {
 
 function draw_map(map, x, y,   i) {
     print "<g transform=\"translate(" x + LABELS " " y + ABOVE ")\">"
-    write(0, -22, "byte", first_byte[map])
-    write(GRID, -22, "small end", counted(map, "12") " unmarked, " counted(map, "34") " marked, " counted(map, "56") " refused")
+    if (is_shared(map)) draw_heading(map)
+    else write(0, -22, "byte", member[map, 1])
+    write(GRID, -22, "small end", (is_shared(map) ? "each " : "") sums_text(member[map, 1]))
     for (i = 0; i < 16; i++)
         write(i * PITCH + PITCH / 2, -4, "label middle", digit(i))
     for (i = 0; i < 16; i++)
@@ -86,14 +92,38 @@ function draw_map(map, x, y,   i) {
     print "</g>"
 }
 
-function draw_line(map, high,   low, code) {
+function sums_text(first) {
+    return counted(first, "12") " unmarked, " counted(first, "34") " marked, " counted(first, "56") " refused"
+}
+
+# Said of a code of the first of the bytes that share a map.
+function others_text(map) {
+    return members[map] == 1 ? "" : members[map] == 2 ? "; " member[map, 2] " alike" : "; the others alike"
+}
+
+# The first bytes that share a map, each with its mnemonic.
+function draw_heading(map,   k, said, y) {
+    y = -38 - 16 * int((members[map] - 1) / NAMED)
+    for (k = 1; k <= members[map]; k++) {
+        said = said (said == "" ? "" : ", ") member[map, k] " " line_label(member[map, k], 0)
+        if (k % NAMED == 0 || k == members[map]) {
+            write(0, y, "strong", said (k == members[map] ? "" : ","))
+            said = ""
+            y += 16
+        }
+    }
+}
+
+function draw_line(map, high,   low, first, code, label) {
+    first = member[map, 1]
     print "<g transform=\"translate(0 " high * PITCH ")\">"
     write(-4, PITCH - 4, "label end", digit(high))
     for (low = 0; low < 16; low++) {
-        code = code_at(map, high, low)
-        print "<use xlink:href=\"#c" class_of[code] "\" x=\"" low * PITCH "\"><title>" tip(code) "</title></use>"
+        code = code_at(first, high, low)
+        print "<use xlink:href=\"#c" class_of[code] "\" x=\"" low * PITCH "\"><title>" tip(code) others_text(map) "</title></use>"
     }
-    if (line_label(map, high) != "")
-        write(GRID + 4, PITCH - 4, "label", line_label(map, high))
+    label = is_shared(map) ? "" : line_label(first, high)
+    if (label != "")
+        write(GRID + 4, PITCH - 4, "label", label)
     print "</g>"
 }

@@ -12,7 +12,7 @@ function title() {
 
 function draw_title() {
     write(MARGIN, MARGIN + 18, "title", title())
-    write(MARGIN, MARGIN + 42, "", "A map for each first byte: the high digit of the second byte goes down, the low one across. " \
+    write(MARGIN, MARGIN + 42, "", "A map for each first byte, or several alike: the second byte's high digit goes down, its low one across. " \
         "Right of a line stands the mnemonic of its accepted codes, or dots for several.")
     write(MARGIN, MARGIN + 60, "", "Colour and cross say what the decoder does. " \
         "A full cell has a meaning in the manual, a hollow one has none. " \

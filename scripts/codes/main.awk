@@ -7,6 +7,7 @@ END {
     keep_definition()
     classify()
     check_counts()
+    check_maps()
     if (classes_only) print_classes()
     else draw()
 }
@@ -29,6 +30,6 @@ function from_hex(text,   i, number) {
 }
 
 # high and low are the second byte's digits
-function code_at(map, high, low) {
-    return first_byte[map] digit(high) digit(low)
+function code_at(first, high, low) {
+    return first digit(high) digit(low)
 }

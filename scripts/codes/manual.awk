@@ -1,8 +1,8 @@
-# The first bytes, a map each, and what the manual says of each code, packed as crates/manual/specs/Packed.antt says; 0 is an empty code.
+# The first bytes, and what the manual says of each code, packed as crates/manual/specs/Packed.antt says; 0 is an empty code.
 
 part == "manual" && /^listed[0-9A-F][0-9A-F] =/ {
     page = substr($1, 7)
-    first_byte[++MAPS] = page
+    add_first(page)
     entries = 0
     next
 }

@@ -24,28 +24,33 @@ function size_text(code,   carried) {
 function operand_text(code, place,   operand, digits) {
     operand = name("Operand", from_hex(substr(numbers_of[code], 4 + 2 * place, 2)))
     if (operand == "Nothing") return ""
-    digits = length_of[code] > 2 ? 0 : operand == "Imm4" ? 1 : operand == "Imm8" ? 2 : 0
+    digits = length_of[code] > 2 ? 0 : operand == "Imm4" ? 1 : operand ~ /^(Imm8|RegList)$/ ? 2 : 0
     return " " operand (digits ? "=" substr(imm_wide_of[code], 9 - digits) : "")
 }
 
-function decoded_text(code) {
-    return mnemonic(code) size_text(code) operand_text(code, 0) operand_text(code, 1) ", " length_of[code] " bytes"
+function tip(code) {
+    return spaced(code) " " (end_of(code) == 0 ? mnemonic(code) : "") tip_behind(code)
 }
 
-function tip(code,   class) {
+# What stands behind the mnemonic.
+function tip_behind(code,   class) {
     class = class_of[code]
-    if (class == 6) return spaced(code) " refused with " end_of(code)
-    if (class == 5) return spaced(code) " refused with " end_of(code) "; manual: " manual_text(code)
-    if (class == 4) return spaced(code) " " decoded_text(code) ", marked; manual: empty"
-    if (class == 3) return spaced(code) " " decoded_text(code) ", marked; manual: " manual_text(code)
-    if (class == 2) return spaced(code) " " decoded_text(code) "; manual: empty"
-    return spaced(code) " " decoded_text(code)
+    if (class == 6) return "refused with " end_of(code)
+    if (class == 5) return "refused with " end_of(code) "; manual: " manual_text(code)
+    if (class == 4) return decoded_behind(code) ", marked; manual: empty"
+    if (class == 3) return decoded_behind(code) ", marked; manual: " manual_text(code)
+    if (class == 2) return decoded_behind(code) "; manual: empty"
+    return decoded_behind(code)
 }
 
-# The mnemonic of all accepted codes of a line of a map, dots if there are several.
-function line_label(map, high,   low, code, label) {
+function decoded_behind(code) {
+    return size_text(code) operand_text(code, 0) operand_text(code, 1) ", " length_of[code] " bytes"
+}
+
+# The mnemonic of all accepted codes of a first byte's line, dots if there are several.
+function line_label(first, high,   low, code, label) {
     for (low = 0; low < 16; low++) {
-        code = code_at(map, high, low)
+        code = code_at(first, high, low)
         if (end_of(code) == 0) {
             if (label != "" && label != mnemonic(code)) return "..."
             label = mnemonic(code)

@@ -1,13 +1,16 @@
 """What is compared, and with what."""
+import csv
 import re
 import subprocess
 
 from model import LONGEST_IMAGE, Model, Record
-from page import STOP, Differs, plain
+from page import BITS, STOP, Differs, plain
 
 RECORD = "crates/record/src/lib.rt"
 HEADER = "include/m16c.h"
 COUNTS = "crates/rows/proofs/Counts.antt"
+HELD = "crates/manual/proofs/Held.antt"
+REGISTERS = "docs/manual/lists.tsv"
 ANSWERS = "crates/replay/stdin"
 PROVED = ["ends 0", "λ a b. both (ends 0 a b) (markedAt a b)", "ends 2", "ends 3", "λ a b. both (ends 3 a b) (readsAt a b)"]
 
@@ -45,7 +48,10 @@ def check(page):
     check_names(page, names)
     check_counts(page)
     check_header(page)
+    check_registers(page)
     check_examples(page, model)
+    check_placed(page, model)
+    check_read(page, model)
 
 
 def check_names(page, names):
@@ -58,7 +64,7 @@ def check_names(page, names):
             raise Differs(f"{page.path}: no {kind} of {RECORD} is called {name}")
     listed = re.search(r"have a number in the header and no row: ([^.]*)\.", page.text)
     unused = [n for n in names.opcodes if n not in opcodes], [n for n in names.operands if n not in operands]
-    same(f"{RECORD}, names without a row", listed and listed[1], "; ".join(", ".join(part) for part in unused))
+    same(f"{RECORD}, names without a row", listed and listed[1], "; ".join(", ".join(part) for part in unused if part))
 
 
 def check_header(page):
@@ -76,10 +82,11 @@ def check_header(page):
     same(f"{HEADER}, M16C_LONGEST_IMAGE", str(LONGEST_IMAGE), enums["m16c_longest"]["M16C_LONGEST_IMAGE"])
 
 
-def proved(what):
-    found = re.search(re.escape(f"countCodes ({what}) ≡ ") + r"(\d+)", read(COUNTS))
+def proved(path, what):
+    """The number that a proof gives to what it counts."""
+    found = re.search(re.escape(f"{what} ≡ ") + r"(\d+)", read(path))
     if found is None:
-        raise Differs(f"{COUNTS}: no proof counts '{what}'")
+        raise Differs(f"{path}: no proof counts '{what}'")
     return int(found[1])
 
 
@@ -91,7 +98,9 @@ def check_counts(page):
     late = [c for c in ends[3] if c.steps[0][0] != STOP]
     rows = [len(c) for c in (page.codes, ends[0], [c for c in ends[0] if c.marked], ends[2], ends[3], late)]
     same("the rows of docs/FORMAT.md, counted", said, rows)
-    same(COUNTS, said[1:], [proved(what) for what in PROVED])
+    same(COUNTS, said[1:], [proved(COUNTS, f"countCodes ({what})") for what in PROVED])
+    meant = re.search(r"The manual gives a meaning to ([\d,]+)\.", page.text)
+    same(f"{HELD}, codes with a meaning", meant and plain(meant[1]), proved(HELD, "meanings : count"))
 
 
 def check_marks(page):
@@ -104,8 +113,8 @@ def check_marks(page):
 
 
 def check_answers(page, model, names):
-    """Every line of the stored list; oracle/README.md has their forms. Every code is among them, with enough bytes."""
-    unseen = set(page.codes)
+    """Every line of the stored list; oracle/README.md has their forms. Every code is among them, with enough bytes, and with its parts."""
+    unseen, unplaced = set(page.codes), set(page.codes)
     for number, line in enumerate(read(ANSWERS).splitlines(), 1):
         where = f"{ANSWERS}, line {number}"
         if line[0] == "E":
@@ -115,12 +124,13 @@ def check_answers(page, model, names):
         elif line[0] == "N":
             check_number(where, model, names, line)
         elif line[0] == "P":
-            check_parts(where, model, line)
+            unplaced.discard(check_parts(where, model, line))
         else:
-            code = check_decoding(where, page, model, names, line)
-            unseen.discard(code)
+            unseen.discard(check_decoding(where, page, model, names, line))
     for first, second in sorted(unseen):
         raise Differs(f"{ANSWERS}: no answer to {first:02X} {second:02X}")
+    for first, second in sorted(unplaced):
+        raise Differs(f"{ANSWERS}: no parts of {first:02X} {second:02X}")
 
 
 def check_decoding(where, page, model, names, line):
@@ -141,10 +151,13 @@ def check_decoding(where, page, model, names, line):
 
 
 def check_parts(where, model, line):
-    count, text, refusal, *parts = line.split()
-    answer = model.decode(bytes.fromhex(text)[:int(count[1:])])
+    """The code that a line on parts and registers speaks of, if it has enough bytes behind it."""
+    count, text, refusal, *parts, registers = line.split()
+    bs = bytes.fromhex(text)[:int(count[1:])]
+    answer = model.decode(bs)
     told = tuple((int(offset, 16), int(width, 16)) for offset, width in parts)
-    same(f"{where}: refusal, parts", (answer.refusal, answer.record.parts), (int(refusal), told))
+    same(f"{where}: refusal, parts, registers", (answer.refusal, answer.record.parts, answer.record.registers), (int(refusal), told, int(registers, 16)))
+    return tuple(bs[:2]) if answer.refusal != 1 else None
 
 
 def record_in(names, head, wide, shorts):
@@ -215,6 +228,40 @@ def same_listing(path, lines):
     for number, (line, found) in enumerate(zip(lines, stored), 1):
         same(f"{path}, line {number}", line, found)
     same(f"{path}, lines", len(lines), len(stored))
+
+
+def check_registers(page):
+    """The bits of the lists are the manual's, and the examples name their registers."""
+    with open(REGISTERS, encoding="utf-8", newline="") as f:
+        known = {int(row["first"], 16): {bit: row[bit] for bit in BITS} for row in csv.DictReader(f, delimiter="\t", quoting=csv.QUOTE_NONE)}
+    same(REGISTERS, {first: bits for first, bits in page.lists.items() if bits}, known)
+    for line in page.table("Register lists", 2):
+        named = page.codes[tuple(bytes.fromhex(line["bytes"]))].registers
+        said = (line["registers"], line["REGISTERS"])
+        same(f"{page.path}, line {line.number}, by the tables", said, (" ".join(named) or "(none)", str(len(named))))
+
+
+def check_placed(page, model):
+    """The examples of where numbers stand."""
+    for line in page.table("Where the numbers stand"):
+        r = model.decode(bytes.fromhex(line["bytes"])).record
+        said = (line["line"], line["FIRST"], line["DISPABS"], line["IMM_WIDE"])
+        parts = (f"{offset}, {width} byte" + "s" * (width > 1) if width else "" for offset, width in r.parts)
+        same(f"{page.path}, line {line.number}, by the tables", said, (model.line(0, r).split(" ", 3)[3], *parts))
+
+
+def check_read(page, model):
+    """The images of which the page tells how much is read: alone, and behind `7E 2C` again and again."""
+    told = re.findall(r"`([0-9A-F ]+)` alone reads ([\d +]+) = (\d+)", page.text)
+    if len(told) != 2:
+        raise Differs(f"{page.path}: it does not tell of two images what is read of them")
+    for text, parts, sum_said in told:
+        image = bytes.fromhex(text)
+        taken = [answer.taken for _, answer in model.places(image, stopping=False)]
+        same(f"{page.path}, {text}", (parts, int(sum_said)), (" + ".join(map(str, taken)), sum(taken)))
+        for times in range(1, 20):
+            whole = bytes.fromhex("7E 2C" * times) + image
+            same(f"{page.path}, {text} behind 7E 2C, {times} times", 3 * len(whole) - (len(whole) + 1) % 2, model.sweep(whole, stopping=False)[-1])
 
 
 def check_examples(page, model):

@@ -21,6 +21,7 @@ class Record:
     marked: bool = False
     dropped: bool = False
     parts: tuple = (NO_PART, NO_PART, NO_PART)  # offset and width of first, dispabs and imm_wide
+    registers: int = 0
 
 
 @dataclass(frozen=True)
@@ -67,7 +68,8 @@ class Model:
                     return Answer(2, at)
                 opcode = self.page.conditions[number]
         operands = code.operands + ("Nothing",)
-        return Answer(0, at, Record(opcode, code.size, code.width, operands, wide, dispabs, first, at, code.marked, dropped, parts))
+        record = Record(opcode, code.size, code.width, operands, wide, dispabs, first, at, code.marked, dropped, parts, len(code.registers))
+        return Answer(0, at, record)
 
     def length(self, bs):
         """Refusal and length by the first two bytes: those of the code's row, whatever follows."""

@@ -3,6 +3,8 @@ import re
 from dataclasses import dataclass
 
 HEX = "0123456789ABCDEF"
+BITS = ["80", "40", "20", "10", "08", "04", "02", "01"]
+BY_FIRST_BYTE = ("Two operands", "Register lists")  # sections: a table of opcodes, then one of rows
 DISPLACEMENT, IMMEDIATE, CONDITION, STOP = "displacement", "immediate", "condition", "stop"
 
 
@@ -22,6 +24,11 @@ def digits(text):
         low, _, high = part.partition("-")
         found += range(HEX.index(low), HEX.index(high or low) + 1)
     return found
+
+
+def bytes_in(text):
+    """The bytes of a list such as '72 73'."""
+    return [int(byte, 16) for byte in re.findall(r"\b[0-9A-F]{2}\b", text)]
 
 
 def shown(text):
@@ -52,6 +59,7 @@ class Code:
     number: int = 0
     steps: tuple = ()
     marked: bool = False
+    registers: tuple = ()  # that the list names
 
 
 class Page:
@@ -64,14 +72,20 @@ class Page:
         self.read_tables()
         self.operand_codes = {letter: self.operand_table(letter) for letter in "GTJK"}
         self.conditions = dict(self.each("Conditions", lambda line: (int(line["byte"], 16), line["opcode"])))
-        self.widths = dict(self.each("An instruction", lambda line: (int(line["first byte"], 16), {"none": "-", "B": "B", "W": "W"}[line["width"]])))
+        self.widths = {}
+        self.each("An instruction", self.read_widths)
         self.fields = self.field_table()
         self.bases = {name: "base " + line["base"] for line in self.table("The same instruction") for name in line["names"].split()}
+        self.opcodes, self.lists = {}, {}
+        for section in BY_FIRST_BYTE:
+            self.each(section, self.read_opcode)
         self.codes = {}
         for heading in self.sections:
             if re.fullmatch(r"[0-9A-F]{2}( and [0-9A-F]{2}| alone)?", heading):
-                firsts = [int(byte, 16) for byte in re.findall(r"\b[0-9A-F]{2}\b", heading)]
-                self.each(heading, lambda line: self.read_row(firsts, line))
+                self.each(heading, lambda line: self.read_row(bytes_in(heading), line))
+        for section in BY_FIRST_BYTE:
+            firsts = [first for line in self.table(section) for first in bytes_in(line["first bytes"])]
+            self.each(section, lambda line: self.read_row(firsts, line), 1)
         for first in self.widths:
             for second in range(256):
                 if (first, second) not in self.codes:
@@ -101,15 +115,29 @@ class Page:
         except (KeyError, IndexError):
             raise Differs(f"{self.path}: no table below '{section}'")
 
-    def each(self, section, work):
+    def each(self, section, work, place=0):
         """Does something with each line of a section's table; what it cannot make sense of is that line's fault."""
         found = []
-        for line in self.table(section):
+        for line in self.table(section, place):
             try:
                 found.append(work(line))
             except (ValueError, KeyError, IndexError, AttributeError, TypeError):
                 raise Differs(f"{self.path}, line {line.number}: not understood: {self.lines[line.number - 1]}")
         return found
+
+    def read_widths(self, line):
+        for first in bytes_in(line["first bytes"]):
+            if first in self.widths:
+                raise ValueError("a first byte has one width")
+            self.widths[first] = {"none": "-", "B": "B", "W": "W"}[line["width"]]
+
+    def read_opcode(self, line):
+        """The opcode that a first byte names, and the registers of the bits of its list."""
+        for first in bytes_in(line["first bytes"]):
+            if first in self.opcodes:
+                raise ValueError("a first byte has one opcode")
+            self.opcodes[first] = line["opcode"]
+            self.lists[first] = {bit: line[bit] for bit in BITS if bit in line.cells}
 
     def operand_table(self, letter):
         """Of each code the names at B and at other widths, or None if it is refused; the bytes that it reads; what is shown."""
@@ -155,15 +183,16 @@ class Page:
             for second in (16 * h + n for h in highs for n in lows):
                 if (first, second) in self.codes:
                     raise Differs(f"{self.path}, line {line.number}: {first:02X} {second:02X} is also in line {self.codes[first, second].line}")
-                self.codes[first, second] = self.code(line, self.widths[first], second)
+                self.codes[first, second] = self.code(line, first, second)
 
-    def code(self, line, width, second):
+    def code(self, line, first, second):
+        width = self.widths[first]
         refused = re.fullmatch(r"refused ([23])", line["opcode"])
         if refused:
             if line["operand 0"] or line["operand 1"] or line["in order"] or line["mark"]:
                 raise ValueError("a refused code has nothing else")
             return Code(line.number, width, steps=((STOP, int(refused[1])),))
-        opcode, _, size = line["opcode"].partition(".")
+        opcode, _, size = (self.opcodes[first] if line["opcode"] == "by first byte" else line["opcode"]).partition(".")
         operands, number = [], 0
         for cell in (line["operand 0"], line["operand 1"]):
             name, _, value = cell.partition(" = ")
@@ -174,8 +203,9 @@ class Page:
             opcode = None
         elif not re.fullmatch("[A-Z]+", opcode):
             raise ValueError("opcode")
+        registers = tuple(name for bit, name in self.lists.get(first, {}).items() if int(bit, 16) & number)
         return Code(line.number, width, opcode, width if size == "size" else size, tuple(operands), number, tuple(steps),
-                    self.marked(line["mark"], second % 16))
+                    self.marked(line["mark"], second % 16), registers)
 
     def coded(self, text, second):
         """The table and the code of 'G(n)', 'K(h-8)' and the like, or None."""
@@ -196,7 +226,7 @@ class Page:
 
     def number_in_code(self, text, second):
         n = second % 16
-        return {"n": n, "n mod 8": n % 8, "second byte mod 64": second % 64,
+        return {"n": n, "n mod 8": n % 8, "second byte": second, "second byte mod 64": second % 64,
                 "n, sign-extended from 3 bits to 32": n if n < 4 else 0xFFFFFFF8 + n}[text]
 
     def steps(self, text, width, second):

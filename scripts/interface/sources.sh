@@ -35,13 +35,29 @@ numbered_lengths() {
 LIST
 }
 
-# "NUMBER FIELD" of each number of a record: the entry that m16c_decode fills with it.
+# "NUMBER FIELD" of each number of a record, in the order of the definition by which m16c_decode is proved to fill its entries.
 numbered_fields() {
-    awk '$1 ~ /^out\[[0-9]+\]$/ && $2 == "=" {
-        gsub(/[^0-9]/, "", $1)
-        sub(/^.*[.(]/, "", $3); sub(/[);].*$/, "", $3)
-        print $1, $3
-    }' "$repo/crates/m16c_decode/src/lib.rt" | sort -n
+    awk '
+        { gsub(/«|»/, "") }
+        /^(numbersOf|partNumbers) [a-z] =$/ { on = $1; next }
+        /^$/ { on = "" }
+        on != "" { text[on] = text[on] " " $0 }
+        $1 == "entries" && $2 == "=" { entries = $3 }
+        END {
+            list = text["numbersOf"]
+            sub(/partNumbers \(x \.inst \.parts\)/, text["partNumbers"], list)
+            gsub(/[()]|\[\]| \.inst/, "", list)
+            count = split(list, item, /∷|[+][+]/)
+            for (k = 1; k <= count; k++) if (match(item[k], /\..*[a-z0-9]/)) {
+                field = substr(item[k], RSTART + 1, RLENGTH - 1)
+                gsub(/ \./, "_", field)
+                print fields++, field
+            }
+            exit fields != entries
+        }' "$repo/crates/m16c_decode/specs/Decoded.antt" || {
+        echo "crates/m16c_decode/specs/Decoded.antt: scripts/interface cannot read numbersOf" >&2
+        exit 1
+    }
 }
 
 # The opcodes that carry a size in the Rust. The oracle's driver lists them, and compiles only if the given Rust agrees.

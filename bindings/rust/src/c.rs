@@ -11,9 +11,9 @@ pub const LONGEST_INSTRUCTION: usize = 7;
 pub const LONGEST_LINE: usize = 120;
 
 extern "C" {
-    /// Decodes at a place of an image. Returns the refusal, 0 for none, and fills nineteen entries: taken, opcode, size, width, three
+    /// Decodes at a place of an image. Returns the refusal, 0 for none, and fills twenty entries: taken, opcode, size, width, three
     /// operands, imm_wide, dispabs, first, length, marked, dropped, then offset and width of the bytes that first, dispabs and imm_wide were
-    /// read from. With fewer than nineteen entries it returns 6 and touches none.
+    /// read from, and how many registers a list names. With fewer than twenty entries it returns 6 and touches none.
     pub fn m16c_decode(
         image: *const u8, image_length: usize,
         at: usize,

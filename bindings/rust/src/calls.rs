@@ -31,7 +31,7 @@ pub fn decode(image: &[u8], at: usize) -> Result<Instruction, Refused> {
 
 /// Writes the shortest bytes that decode to the same instruction, of these the first in byte order, from a place of a buffer on. Returns
 /// how many were written; nothing else is touched, and nothing at all on refusal. What the instruction says of `length`, `marked`,
-/// `dropped` and `parts` does not count.
+/// `dropped`, `parts` and `registers` does not count.
 pub fn encode(instruction: &Instruction, buf: &mut [u8], place: usize) -> Result<usize, Refusal> {
     let numbers = instruction.numbers();
     let mut length = 0;

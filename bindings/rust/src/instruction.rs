@@ -1,6 +1,6 @@
 use crate::calls::operand_number;
 use crate::names::index;
-use crate::{Opcode, OperandSpec, Parts, Size, Width};
+use crate::{Opcode, OperandSpec, Parts, RegisterList, Size, Width};
 
 /// A record as the library has it.
 pub(crate) type Numbers = [u32; index::NUMBERS];
@@ -18,7 +18,8 @@ pub struct Instruction {
     /// The displacement that was read before the one in `dispabs`, where two were.
     pub first: u16,
     pub length: u8,
-    /// Whether decoding departs from the maker's manual here.
+    /// Whether decoding departs from the maker's manual here. Not where it accepts what the manual only forbids: A0 or A1 on both sides of
+    /// a byte's `MOV`, `ADD` and so on, and a list of no registers.
     pub marked: bool,
     /// Whether a 20-bit number was read from three bytes of which the upper four bits, which are not kept, were not all zero. Its line
     /// then ends in ` !`; encoding writes zeros there.
@@ -36,6 +37,8 @@ pub struct Instruction {
     pub dropped: bool,
     /// What [`Instruction::parts`] tells.
     pub parts: Parts,
+    /// What [`Instruction::registers`] tells.
+    pub registers: u8,
 }
 
 /// An operand with the number that belongs to it, if its form has one.
@@ -60,6 +63,7 @@ impl Default for Instruction {
             marked: false,
             dropped: false,
             parts: Parts::default(),
+            registers: 0,
         }
     }
 }
@@ -95,6 +99,39 @@ impl Instruction {
         self.parts
     }
 
+    /// How many registers the list of a `PUSHM` or `POPM` names, as decoding counted them; 0 for the empty list, which is accepted, and for
+    /// every other instruction. [`Instruction::register_list`] names them.
+    ///
+    /// ```
+    /// assert_eq!(m16c::decode(&[0xEC, 0xC9], 0)?.registers(), 4);
+    /// assert_eq!(m16c::decode(&[0xED, 0x00], 0)?.registers(), 0);
+    /// assert_eq!(m16c::decode(&[0xEB, 0xC5], 0)?.registers(), 0);
+    /// # Ok::<(), m16c::Refused>(())
+    /// ```
+    pub fn registers(&self) -> u8 {
+        self.registers
+    }
+
+    /// The registers that the list of a `PUSHM` or `POPM` names; none for every other instruction. It goes by the opcode, since the bits of
+    /// the one are those of the other turned round, and by the low byte of `imm_wide`, so that it also tells of an instruction that is yet
+    /// to be encoded.
+    ///
+    /// ```
+    /// use m16c::OperandSpec::{A0, FB, R0, R1};
+    ///
+    /// let entry = m16c::decode(&[0xEC, 0xC9], 0)?;
+    /// let exit = m16c::decode(&[0xED, 0x93], 0)?;
+    /// assert!(entry.register_list().eq([R0, R1, A0, FB]));
+    /// assert!(exit.register_list().eq([FB, A0, R1, R0]));
+    ///
+    /// // What was pushed is popped again.
+    /// assert!(entry.register_list().eq(exit.register_list().rev()));
+    /// # Ok::<(), m16c::Refused>(())
+    /// ```
+    pub fn register_list(&self) -> RegisterList {
+        RegisterList::of(self)
+    }
+
     /// None if the numbers are those of no instruction.
     pub(crate) fn from_numbers(numbers: &Numbers) -> Option<Self> {
         let size = match numbers[index::SIZE] {
@@ -113,6 +150,7 @@ impl Instruction {
             marked: numbers[index::MARKED] != 0,
             dropped: numbers[index::DROPPED] != 0,
             parts: Parts::from_numbers(numbers)?,
+            registers: numbers[index::REGISTERS].try_into().ok()?,
         })
     }
 

@@ -8,6 +8,7 @@ mod instruction;
 mod line;
 mod names;
 mod parts;
+mod registers;
 mod sweep;
 
 pub use c::{LONGEST_IMAGE, LONGEST_INSTRUCTION, LONGEST_LINE};
@@ -16,4 +17,5 @@ pub use instruction::{Instruction, Operand};
 pub use line::{line, Line};
 pub use names::{Opcode, OperandSpec, Refusal, Size, Width};
 pub use parts::{Part, Parts};
+pub use registers::RegisterList;
 pub use sweep::{sweep, sweep_stopping, Instructions, Placed, Sweep};

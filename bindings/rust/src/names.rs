@@ -729,7 +729,7 @@ pub enum Refusal {
     InvalidOpcode = 2,
     /// Decoding: the instruction does not take this operand.
     InvalidOperand = 3,
-    /// Decoding: not one of the twelve first bytes that are decoded here.
+    /// Decoding: not one of the 34 first bytes that are decoded here.
     FirstByteOutside = 4,
     /// Encoding: no bytes decode to this instruction, but for those of marked rows; asked for a number: there is none.
     NoString = 5,
@@ -794,5 +794,6 @@ pub(crate) mod index {
     pub const DISPABS_WIDTH: usize = 16;
     pub const IMM_WIDE_OFFSET: usize = 17;
     pub const IMM_WIDE_WIDTH: usize = 18;
-    pub const NUMBERS: usize = 19;
+    pub const REGISTERS: usize = 19;
+    pub const NUMBERS: usize = 20;
 }

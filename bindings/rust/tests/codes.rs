@@ -2,12 +2,18 @@
 
 use m16c::{decode, encode, line, Instruction, Opcode, OperandSpec, Part, Refusal, Size, Width};
 
-const FIRST_BYTES: [u8; 12] = [0x74, 0x75, 0x76, 0x77, 0x78, 0x79, 0x7A, 0x7B, 0x7C, 0x7D, 0x7E, 0xEB];
+#[rustfmt::skip] // sixteen in a line
+const FIRST_BYTES: [u8; 34] = [
+    0x72, 0x73, 0x74, 0x75, 0x76, 0x77, 0x78, 0x79, 0x7A, 0x7B, 0x7C, 0x7D, 0x7E, 0x80, 0x81, 0x88,
+    0x89, 0x90, 0x91, 0x98, 0x99, 0xA0, 0xA1, 0xA8, 0xA9, 0xB0, 0xB1, 0xB8, 0xB9, 0xC0, 0xC1, 0xEB,
+    0xEC, 0xED,
+];
 // Bytes behind a code. Where 7E wants a condition each has one; all bytes of one differ, so that none passes for another.
 const TAILS: [[u8; 5]; 3] = [[0x00; 5], [0x05, 0x06, 0xFA, 0xC3, 0xD4], [0x01, 0x02, 0x03, 0x04, 0xF5]];
 
-const ACCEPTED_CODES: usize = 2596;
-const UNMARKED_CODES: usize = 2150;
+// Of the twenty-two first bytes of request A7 every code is accepted, and none is marked.
+const ACCEPTED_CODES: usize = 2596 + 22 * 256;
+const UNMARKED_CODES: usize = 2150 + 22 * 256;
 
 /// Every code with each tail.
 fn strings() -> impl Iterator<Item = [u8; 7]> {
@@ -192,6 +198,19 @@ fn other_bytes_over_a_part_change_its_field_alone() {
             assert_eq!(decode(&patched, 0), Ok(expected), "{field:?} of {bytes:X?}: {patched:X?}");
         }
     }
+}
+
+/// Only a list of registers has any: the ones of the second byte.
+#[test]
+fn registers_are_those_of_a_list() {
+    for (bytes, instruction) in instructions() {
+        let is_list = instruction.operands[0] == OperandSpec::RegList;
+        assert_eq!(is_list, [0xEC, 0xED].contains(&bytes[0]), "{bytes:X?}");
+        let count = if is_list { bytes[1].count_ones() } else { 0 };
+        assert_eq!(u32::from(instruction.registers()), count, "{bytes:X?}");
+        assert_eq!(instruction.register_list().len(), count as usize, "{bytes:X?}");
+    }
+    assert_eq!(Instruction::default().registers(), 0);
 }
 
 #[test]

@@ -38,6 +38,7 @@ fn accepted_lines() {
             marked: false,
             dropped: true,
             parts: Parts { first: None, dispabs: part(2, 2), imm_wide: part(4, 3) },
+            registers: 0,
         }
     );
     let rotated = accepted(&[0x75, 0x63]);

@@ -6,8 +6,9 @@ use m16c::{decode, length_of, Refusal};
 // Bytes behind a code. Where 7E wants a condition, FF is none, and the others have one.
 const TAILS: [[u8; 5]; 4] = [[0x00; 5], [0xFF; 5], [0x05, 0x06, 0xFA, 0xC3, 0xD4], [0x01, 0x02, 0x03, 0x04, 0xF5]];
 
-const ACCEPTED_CODES: usize = 2596;
-const OUTSIDE_CODES: usize = (256 - 12) * 256;
+// Of the twenty-two first bytes of request A7 every code is accepted.
+const ACCEPTED_CODES: usize = 2596 + 22 * 256;
+const OUTSIDE_CODES: usize = (256 - 34) * 256;
 
 /// Every two bytes.
 fn codes() -> impl Iterator<Item = [u8; 2]> {

@@ -8,7 +8,7 @@ use m16c::c::{Sweep, LONGEST_LINE};
 const EXHAUSTED_INPUT: u32 = 1;
 const NO_STRING: u32 = 5;
 const TOO_LITTLE_ROOM: u32 = 6;
-const NUMBERS: usize = 19;
+const NUMBERS: usize = 20;
 
 const SWEEPS: [Sweep; 2] = [m16c_sweep, m16c_sweep_stopping];
 

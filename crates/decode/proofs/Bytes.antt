@@ -8,7 +8,7 @@ use native.Mathlib.Omega.{arith}
 use lib.ListN.{length, getD, drop}
 use lib.Seq.{drop-nil}
 use Rattle.laws.specs.Choice.{pick}
-use Rattle.rows.specs.Rows.{known, document01}
+use Rattle.rows.specs.Groups.{known, document01}
 use Rattle.rows.specs.Run.{decodeRows, decodeBy, refusal, runRow}
 
 -- past a list's end nothing is left

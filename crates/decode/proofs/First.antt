@@ -11,9 +11,10 @@ use Rattle.laws.proofs.Agree.{Rest, agree, agree-past}
 use Rattle.laws.proofs.Range.{each-from}
 use Rattle.record.specs.declared.Width.{Width}
 use Rattle.rows.specs.Row.{Row}
-use Rattle.rows.specs.Rows.{known, document01}
+use Rattle.rows.specs.Groups.{known, document01}
 use Rattle.rows.specs.Run.{refusal, runRow}
 use Rattle.readers.specs.steps.Width.{widthOf}
+use Rattle.decode_72.specs.steps.Added.{isAdded}
 
 -- of two first bytes, the even one has width B
 module _ (b : ℕ) (bs : List ℕ) (r : Width → ℕ → ℕ → Row) (even : ℕ) where
@@ -24,11 +25,12 @@ module _ (b : ℕ) (bs : List ℕ) (r : Width → ℕ → ℕ → Row) (even : �
   of-pair = each-from Answers even 2
 
 -- as in_part asks
-pub known-asked : (a : ℕ) → a < 256 → known a ≡ pick (ltb a 0x74) false (pick (leb a 0x7E) true (eqb a 0xEB))
-unfolding known
-known-asked = agree known (λ a. pick (ltb a 0x74) false (pick (leb a 0x7E) true (eqb a 0xEB))) 256 refl
+pub known-asked : (a : ℕ) → a < 256 → known a ≡ pick (isAdded a) true (pick (ltb a 0x74) false (pick (leb a 0x7E) true (eqb a 0xEB)))
+unfolding known isAdded
+known-asked = agree known (λ a. pick (isAdded a) true (pick (ltb a 0x74) false (pick (leb a 0x7E) true (eqb a 0xEB)))) 256 refl
 
 -- as decode_group's last arm has it: the pairs are told by their bounds, and the other arms' keys are these, the last first
-pub known-rest : (a : ℕ) → a < 256 → Rest (0xEB ∷ 0x7E ∷ 0x7D ∷ 0x7C ∷ 0x7B ∷ 0x7A ∷ []) a → known a ≡ pick (ltb a 0x74) false (ltb a 0x7A)
-unfolding known
-known-rest = agree-past (0xEB ∷ 0x7E ∷ 0x7D ∷ 0x7C ∷ 0x7B ∷ 0x7A ∷ []) false known (λ a. pick (ltb a 0x74) false (ltb a 0x7A)) 256 refl
+pub known-rest : (a : ℕ) → a < 256 → Rest (0xEB ∷ 0x7E ∷ 0x7D ∷ 0x7C ∷ 0x7B ∷ 0x7A ∷ []) a → known a ≡ pick (leb 0x74 a) (pick (ltb a 0x7A) true (isAdded a)) (isAdded a)
+unfolding known isAdded
+known-rest =
+    agree-past (0xEB ∷ 0x7E ∷ 0x7D ∷ 0x7C ∷ 0x7B ∷ 0x7A ∷ []) false known (λ a. pick (leb 0x74 a) (pick (ltb a 0x7A) true (isAdded a)) (isAdded a)) 256 refl

@@ -2,7 +2,7 @@
 ghost use mathlib.Core.Path.{_≡_};
 ghost use lib.ListN.{drop};
 ghost use Rattle.laws.specs.Choice.{pick};
-ghost use Rattle.rows.specs.Rows.{known, document01};
+ghost use Rattle.rows.specs.Groups.{known, document01};
 ghost use Rattle.rows.specs.Run.{decodeRows, refusal, runRow};
 use decode_7c::op7C;
 use decode_7c::op7D;
@@ -20,6 +20,9 @@ use record::refusal;
 fn in_part(a: u8) -> bool
     ensures { λ r. ⌜ r ≡ known a ⌝ }
 {
+    if decode_72::is_added(a) {
+        return true;
+    }
     if a < 0x74 {
         return false;
     }
@@ -35,15 +38,15 @@ fn decode_group(bs: &[u8], a: u8, b: u8) -> Answer
 {
     match a {
         0x74 | 0x75 => op74::decode_op74(bs, a % 2 == 0, b),
-        0x76 | 0x77 => op76::decode_op76(bs, a % 2 == 0, b),
-        0x78 | 0x79 => op78::decode_op78(bs, a % 2 == 0, b),
+        0x76 | 0x77 => op76::decode_op76(&bs[0..], a % 2 == 0, b),
+        0x78 | 0x79 => op78::decode_op78(&bs[0..], a % 2 == 0, b),
         0x7A => op7A::decode_op7A(bs, b),
         0x7B => op7B::decode_op7B(bs, b),
         0x7C => op7C::decode_op7C(bs, b),
         0x7D => op7D::decode_op7D(bs, b),
         0x7E => op7E::decode_op7E(bs, b),
         0xEB => opEB::decode_opEB(bs, b),
-        _ => answer::refuse(refusal::FIRST_BYTE_OUTSIDE, 1),
+        _ => decode_72::decode_added(bs, a, b),
     }
 }
 

@@ -14,7 +14,7 @@ use Rattle.record.specs.declared.Operand.the-variants.{Nothing}
 use Rattle.record.specs.Numbers.{sizeNo, widthNo, operandNo}
 use Rattle.record.specs.Same.{sameName, among, fieldOf, baseOf, valueOf, key}
 use Rattle.record.proofs.Apart.{operands-apart}
-use Rattle.rows.specs.Rows.{known, document01}
+use Rattle.rows.specs.Groups.{known, document01}
 use Rattle.encode_choice.specs.declared.Asked.{Asked}
 use Rattle.encode_rules.specs.Says.{bytes, none}
 use Rattle.encode_rules.specs.steps.Search.{bytesBy}
@@ -137,7 +137,7 @@ module _ (r : Record) (third : sameName (r .op2) Nothing ≡ true) (a b : ℕ) (
   unfolding slots.slots
   same-slots =
       let f = document01 .rowAt a b .face in
-      λ j. slots.slots (record { opcode = f .opcode; size = f .size; width = the-row .width j; op0 = the-row .op0 j; op1 = the-row .op1 j; marked = f .marked }) (conditions a b) k
+      λ j. slots.slots (record { opcode = f .opcode; size = f .size; width = the-row .width j; op0 = the-row .op0 j; op1 = the-row .op1 j; marked = f .marked; registers = f .registers }) (conditions a b) k
 
   in-slots : bytesBy document01 a b k ≡ a ∷ b ∷ slots.slots (faceBy q) (conditions a b) k
   unfolding bytesBy

@@ -1,23 +1,32 @@
 -- The numbers of a live row, as its reads have them, are those of its names: written in their order, and each with its limit.
 -- Assumes nothing.
-use Prim.Native.Nat.{ℕ, _<_}
+use Prim.Native.Nat.{ℕ, _+_, _/_, _%_, _<_}
 use mathlib.Core.Path.{_≡_, refl, sym, ap, subst, _∙_}
 use mathlib.Core.Bool.{Bool, true, false, false≢true, not}
 use mathlib.Core.List.{List, [], _∷_, _++_, append-nil}
 use native.Mathlib.Nat.{lt-of-lt-of-le}
 use lib.Dec.{T, eqb, ltb, leb}
+use lib.ListN.{take}
 use borrow.Author.Tests.{eq-eqb, lt-ltb, leb-true}
 use Rattle.laws.specs.Choice.{pick, both, either}
+use Rattle.laws.specs.Range.{upto}
+use Rattle.laws.proofs.Agree.{agree}
 use Rattle.laws.proofs.Choice.{both-left, both-right}
+use Rattle.laws.proofs.Range.{upto-at}
 use Rattle.record.specs.declared.Key.{Key}
+use Rattle.record.specs.declared.Opcode.{Opcode}
 use Rattle.record.specs.declared.Operand.{Operand}
+use Rattle.record.specs.declared.Width.{Width}
+use Rattle.record.specs.declared.Width.the-variants.{None, B, W}
 use Rattle.record.specs.declared.fields.Field.{Field}
 use Rattle.record.specs.Same.{sameName, among, fieldOf, baseOf}
 use Rattle.record.proofs.Arms.{every-operand}
-use Rattle.rows.specs.All.{everyCode}
+use Rattle.rows.specs.All.{everyFirst, EachFirst}
 use Rattle.rows.specs.Row.{Face, Row}
-use Rattle.rows.specs.Rows.{known, rowsOf, document01}
-use Rattle.rows.proofs.All.{every-code}
+use Rattle.rows.specs.Rows.{row}
+use Rattle.rows.specs.Pairs.{two, pairs}
+use Rattle.rows.specs.Groups.{Group, groups, bothWidths, known, rowsOf, document01}
+use Rattle.rows.proofs.All.{each-first, tested, joined}
 use Rattle.encode_rules.specs.steps.Can.{exact, fits}
 use Rattle.encode_rules.specs.steps.Digits.{digits}
 use Rattle.encode_rules.specs.steps.Search.{condByte, disps, imms, conds, spell, live, aim}
@@ -25,7 +34,9 @@ use Rattle.encode_rules.proofs.Bools.{so, both-last, picked}
 use Rattle.encode_choice.specs.steps.Coarse.{inCode, whole, wholeRow}
 use Rattle.encode_choice.specs.steps.Coded.{isWide}
 use Rattle.encode_choice.specs.steps.Forms.{numberLimit}
+use Rattle.encode_choice.specs.steps.Choose.{word}
 use Rattle.encode_choice.proofs.Formed.{meant}
+use Rattle.encode_choice.proofs.Pairs.{even, opcode, Sided, at-bytes, rows}
 use Rattle.encode.specs.steps.Faced.{conditions}
 use Rattle.encode.specs.steps.Slots as slots
 use Rattle.encode.specs.steps.Slots.{countOf, limitOf, turns, count0}
@@ -81,14 +92,51 @@ limited w = either (same (limitTags w) (limit0 w ∷ limit1 w ∷ [])) (same (li
 abbrev allRead : Row → Bool
 allRead w = both (isRead (wholeRow (w .face)) (fieldOf (w .face .op0)) (imms (w .reads))) (isRead false (fieldOf (w .face .op1)) (imms (w .reads)))
 
-asNamed : ℕ → ℕ → Bool
-asNamed a b =
-    let w = document01 .rowAt a b in
-    pick (live w) (both (inOrder w (conditions a b)) (both (limited w) (allRead w))) true
+-- of a row, and how many conditions it reads
+rowNamed : Row → ℕ → Bool
+rowNamed w c = pick (live w) (both (inOrder w c) (both (limited w) (allRead w))) true
 
-all-named : T (everyCode asNamed)
-unfolding everyCode asNamed rowsOf same some tagsBy aim limitOf turns countOf sameName among disps imms fieldOf baseOf whole
-all-named = tt
+abbrev AllNamed : ℕ → Type 0
+AllNamed a = (b : ℕ) → b < 256 → T (rowNamed (document01 .rowAt a b) (conditions a b))
+
+-- the first bytes that are no pair of request A7
+abbrev single : List Group
+single = take 14 groups
+
+all-single : T (everyFirst (λ a. upto (λ b. rowNamed (document01 .rowAt a b) (conditions a b)) 256) single)
+unfolding upto groups rowNamed rowsOf same some tagsBy aim limitOf turns countOf sameName among disps imms fieldOf baseOf whole
+all-single = tt
+
+-- the pairs: their row asks for no opcode here, so that one test serves all ten
+all-two : (o : Opcode) (w : Width) → Sided w → T (upto (λ b. rowNamed (two o w (b / 16) (b % 16)) 0) 256)
+unfolding upto two row rowNamed same some tagsBy aim limitOf turns countOf sameName among disps imms fieldOf baseOf whole
+all-two o B t = tt
+all-two o W t = tt
+all-two o None t = absurd t
+
+module _ (k : ℕ) (l : k < 10) (w : Width) (t : Sided w) where
+  unconditional : (b : ℕ) → conditions (even k + word w) b ≡ 0
+  unconditional b = ap (λ x. pick (both x (eqb (b / 16) 2)) 1 0) (no-bit w t k l)
+    where
+      no-bit : (w : Width) → Sided w → (k : ℕ) → k < 10 → eqb (even k + word w) 0x7E ≡ false
+      no-bit B t = agree _ (λ k. false) 10 refl
+      no-bit W t = agree _ (λ k. false) 10 refl
+      no-bit None t = absurd t
+
+  two-named : AllNamed (even k + word w)
+  two-named b h =
+      subst T (λ i. rowNamed (sym (rows w t k l) i (b / 16) (b % 16)) (sym (unconditional b) i)) (upto-at (λ b. rowNamed (two (opcode k) w (b / 16) (b % 16)) 0) 256 (all-two (opcode k) w t) b h)
+
+all-named : (a : ℕ) → known a ≡ true → AllNamed a
+unfolding groups
+all-named =
+    each-first AllNamed
+    (joined AllNamed single (bothWidths pairs [])
+    (every-single single (tested (λ a. upto (λ b. rowNamed (document01 .rowAt a b) (conditions a b)) 256) single all-single)) (at-bytes AllNamed two-named))
+  where
+    every-single : (gs : List Group) → EachFirst (λ a. T (upto (λ b. rowNamed (document01 .rowAt a b) (conditions a b)) 256)) gs → EachFirst AllNamed gs
+    every-single [] t = tt
+    every-single (g ∷ gs) t = (upto-at (λ b. rowNamed (document01 .rowAt (g .byte) b) (conditions (g .byte) b)) 256 (t .0), every-single gs (t .1))
 
 either-way : (x y : Bool) {A : Type 0} → T (either x y) → (T x → A) → (T y → A) → A
 either-way true y t f g = f tt
@@ -104,15 +152,15 @@ module _ (a b : ℕ) (e : known a ≡ true) (l : b < 256) (v : live (document01 
   abbrev w : Row
   w = document01 .rowAt a b
 
-  tested : T (both (inOrder w (conditions a b)) (both (limited w) (allRead w)))
-  unfolding asNamed
-  tested = picked _ _ (every-code asNamed all-named b l a e) v
+  in-words : T (both (inOrder w (conditions a b)) (both (limited w) (allRead w)))
+  unfolding rowNamed
+  in-words = picked _ _ (all-named a e b l) v
 
   -- the bytes behind a code
   pub ordered : spell (document01 .rowAt a b .reads) (aim (document01 .rowAt a b .face) k) ≡ slots.slots (document01 .rowAt a b .face) (conditions a b) k
   ordered =
       read-out k (w .face) (w .reads)
-      ∙ spell-alike (readTags (w .face) (w .reads)) (writtenTags (w .face) (turns (w .face .op0)) (eqb (conditions a b) 0)) (both-left (inOrder w (conditions a b)) _ tested) k
+      ∙ spell-alike (readTags (w .face) (w .reads)) (writtenTags (w .face) (turns (w .face .op0)) (eqb (conditions a b) 0)) (both-left (inOrder w (conditions a b)) _ in-words) k
       ∙ sym (written-out k (w .face) (conditions a b))
 
   -- each number fits where the row reads it, or is the row's own
@@ -130,7 +178,7 @@ module _ (a b : ℕ) (e : known a ≡ true) (l : b < 256) (v : live (document01 
       let x1 = fieldOf (w .face .op1) in
       let n = imms (w .reads) in
       let part = wholeRow (w .face) in
-      let rest = both-right (inOrder w (conditions a b)) _ tested in
+      let rest = both-right (inOrder w (conditions a b)) _ in-words in
       let read = both-right (limited w) _ rest in
       let x = ltb (k .number0) (limitOf (w .face .op0)) in
       let y = ltb (k .number1) (limitOf (w .face .op1)) in

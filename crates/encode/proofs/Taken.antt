@@ -13,7 +13,7 @@ use Rattle.record.specs.declared.Operand.the-variants.{Nothing}
 use Rattle.record.specs.Numbers.{operandNo}
 use Rattle.record.specs.Same.{sameName, among, baseOf, key}
 use Rattle.record.proofs.Arms.{every-operand}
-use Rattle.rows.specs.Rows.{known, document01}
+use Rattle.rows.specs.Groups.{known, document01}
 use Rattle.encode_rules.specs.Says.{bytes, none}
 use Rattle.encode_rules.specs.steps.Search.{bytesBy}
 use Rattle.encode_rules.specs.steps.Can.{can}

@@ -9,14 +9,17 @@ pub(crate) struct Slot {
     pub limit: u32,
 }
 
-// Both in one byte, so that a table of bytes is enough: 32 for each byte behind the code, and how many bits the number may have.
+// Both in one byte, so that a table of bytes is enough: 32 for each byte behind the code, and how many bits the number may have. Imm4 and
+// RegList are part of a code.
 const ONE_BYTE: u8 = 32 + 8;
 
 const TWO_BYTES: u8 = 2 * 32 + 16;
 
 const THREE_BYTES: u8 = 3 * 32 + 20;
 
-const IN_CODE: u8 = 4;
+const FOUR_BITS: u8 = 4;
+
+const EIGHT_BITS: u8 = 8;
 
 pub(crate) fn size_of(o: Operand) -> u8
     ensures { λ r. ⌜ r ≡ sizeOf o ⌝ }
@@ -49,7 +52,8 @@ pub(crate) fn size_of(o: Operand) -> u8
         | Operand::Disp16_SB
         | Operand::Abs16 => TWO_BYTES,
         Operand::Disp20_A0 | Operand::Disp20_A1 | Operand::Abs20 => THREE_BYTES,
-        Operand::Imm4 => IN_CODE,
+        Operand::Imm4 => FOUR_BITS,
+        Operand::RegList => EIGHT_BITS,
         _ => 0,
     }
 }

@@ -3,7 +3,7 @@
 use mathlib.Core.Path.{refl}
 use Rattle.record.specs.Same.{sameName, among, fieldOf, baseOf}
 use Rattle.rows.specs.Codes.{condOf}
-use Rattle.rows.specs.Rows.{known, rowsOf}
+use Rattle.rows.specs.Groups.{known, rowsOf}
 use Rattle.rows.specs.Run.{decodeBy, runRow, run, readDisp, readInto}
 use Rattle.encode_rules.specs.steps.Search.{condByte, disps, imms, conds, spell, aim, bytesBy}
 use Rattle.encode_rules.specs.steps.Can.{fits, can}

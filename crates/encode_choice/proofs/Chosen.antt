@@ -9,7 +9,7 @@ use Rattle.record.specs.declared.Record.{Record}
 use Rattle.record.specs.declared.Key.{Key}
 use Rattle.record.specs.Same.{baseOf, fieldOf, key}
 use Rattle.rows.specs.All.{everyCode}
-use Rattle.rows.specs.Rows.{known, rowsOf, document01}
+use Rattle.rows.specs.Groups.{known, rowsOf, document01}
 use Rattle.rows.proofs.All.{every-code}
 use Rattle.encode_rules.specs.Says.{Right}
 use Rattle.encode_rules.specs.steps.Search.{imms, best}

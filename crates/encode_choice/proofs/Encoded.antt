@@ -8,7 +8,7 @@ use lib.ListN.{length}
 use Rattle.record.specs.declared.Record.{Record}
 use Rattle.record.specs.Same.{Same}
 use Rattle.rows.specs.Bytes.{Bytes}
-use Rattle.rows.specs.Rows.{document01}
+use Rattle.rows.specs.Groups.{document01}
 use Rattle.rows.specs.Run.{decodeRows}
 use Rattle.rows.proofs.Bytes.{at-bytes}
 use Rattle.rows.proofs.Length.{two-to-seven}

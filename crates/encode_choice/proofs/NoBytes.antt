@@ -14,7 +14,7 @@ use Rattle.record.specs.Parts.{noParts}
 use Rattle.record.specs.Same.{sameName, among, fieldOf, baseOf}
 use Rattle.record.specs.Signed.{isSigned, numberOf, numberAt}
 use Rattle.rows.specs.Codes.{condOf}
-use Rattle.rows.specs.Rows.{document01, known, rowsOf}
+use Rattle.rows.specs.Groups.{document01, known, rowsOf}
 use Rattle.rows.specs.Run.{decodeBy, runRow, run, readDisp, readInto}
 use Rattle.encode_rules.specs.Says.{bytes, none, Right}
 use Rattle.encode_rules.specs.steps.Search.{condByte, disps, imms, conds, spell, aim, bytesBy}
@@ -48,6 +48,7 @@ negated v = record {
   marked = false;
   dropped = false;
   parts = noParts;
+  registers = 0;
 }
 
 -- request A3: encoding goes by what a field holds, and not by the number that it is counted as: one number, and one of the two has bytes

@@ -11,7 +11,7 @@ use Rattle.encode_rules.specs.steps.Direct.{Choice}
 use Rattle.encode_choice.specs.steps.Choose.{onField, orImm}
 use Rattle.encode_choice.specs.steps.Coded.{coded, isWide}
 
-on-field : (f : Field) (x y : Choice) → pick (isWide f) x y ≡ onField f x y
+pub on-field : (f : Field) (x y : Choice) → pick (isWide f) x y ≡ onField f x y
 on-field wide x y = refl
 on-field nowhere x y = refl
 on-field short x y = refl

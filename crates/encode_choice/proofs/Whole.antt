@@ -5,7 +5,7 @@ use mathlib.Core.Logic.{_≢_}
 use mathlib.Core.Bool.{true, false}
 use borrow.Author.Tests.{eq-eqb, ne-eqb}
 use Rattle.record.specs.declared.Operand.{Operand}
-use Rattle.record.specs.declared.Operand.the-variants.{Imm4, Imm8}
+use Rattle.record.specs.declared.Operand.the-variants.{Imm4, Imm8, RegList}
 use Rattle.record.specs.declared.Width.{Width}
 use Rattle.record.specs.Numbers.{widthNo}
 use Rattle.record.specs.Same.{sameName}
@@ -16,9 +16,13 @@ module _ (w : Width) (o : Operand) where
   unfolding whole
   whole-first z i = rw (eq-eqb _ _ z) (rw i refl)
 
-  pub whole-second : widthNo w ≡ 0 → sameName o Imm4 ≡ false → sameName o Imm8 ≡ whole w o
+  pub whole-second : widthNo w ≡ 0 → sameName o Imm4 ≡ false → sameName o Imm8 ≡ true → true ≡ whole w o
   unfolding whole
-  whole-second z i = rw (eq-eqb _ _ z) (rw i refl)
+  whole-second z i j = rw (eq-eqb _ _ z) (rw i (rw j refl))
+
+  pub whole-third : widthNo w ≡ 0 → sameName o Imm4 ≡ false → sameName o Imm8 ≡ false → sameName o RegList ≡ whole w o
+  unfolding whole
+  whole-third z i j = rw (eq-eqb _ _ z) (rw i (rw j refl))
 
   pub whole-none : widthNo w ≢ 0 → false ≡ whole w o
   unfolding whole

@@ -27,13 +27,16 @@ fn all_in(s: Sets, q: Asked) -> bool
     false
 }
 
-// A number that is part of the code, of Imm4 or of Imm8.
+// A number that is part of the code, of Imm4, of RegList or of Imm8.
 fn number_goes(q: Asked) -> bool
     ensures { λ r. ⌜ r ≡ ltb (q .number) (numberLimit (q .op0)) ⌝ }
 {
     let op0 = q.op0;
     if fields::same_name(op0, Operand::Imm4) {
         return q.number < 16;
+    }
+    if fields::same_name(op0, Operand::RegList) {
+        return q.number < 256;
     }
     q.number < 64
 }

@@ -16,7 +16,7 @@ pub enum Form {
     SizedGeneral,
     GeneralOrImmediate,
     ImmediateAlone,
-    Immediate,
+    Arithmetic,
     Sum,
     Move,
     Rotate,
@@ -44,6 +44,7 @@ pub enum Form {
     Exchange,
     StoreControl,
     Control,
+    RegisterList,
 }
 
 pub struct Sets(pub u64, pub u64);
@@ -118,10 +119,10 @@ pub(crate) fn form_of(o: Opcode) -> Form
     match o {
         Opcode::NOP => Form::Unused,
         Opcode::ABS => Form::General,
-        Opcode::ADC => Form::Immediate,
+        Opcode::ADC => Form::Arithmetic,
         Opcode::ADCF => Form::Unused,
         Opcode::ADD => Form::Sum,
-        Opcode::AND => Form::Immediate,
+        Opcode::AND => Form::Arithmetic,
         Opcode::BAND => Form::Bit,
         Opcode::BCLR => Form::Bit,
         Opcode::BMEQ => Form::FlagOrBit,
@@ -149,7 +150,7 @@ pub(crate) fn form_of(o: Opcode) -> Form
         Opcode::BTSTC => Form::Bit,
         Opcode::BTSTS => Form::Bit,
         Opcode::BXOR => Form::Bit,
-        Opcode::CMP => Form::Immediate,
+        Opcode::CMP => Form::Arithmetic,
         Opcode::DADC => Form::Decimal,
         Opcode::DADD => Form::Decimal,
         Opcode::DIV => Form::GeneralOrImmediate,
@@ -188,19 +189,19 @@ pub(crate) fn form_of(o: Opcode) -> Form
         Opcode::NEG => Form::General,
         Opcode::NO => Form::Unused,
         Opcode::NOT => Form::SizedGeneral,
-        Opcode::OR => Form::Immediate,
+        Opcode::OR => Form::Arithmetic,
         Opcode::POP => Form::General,
         Opcode::POPC => Form::Control,
-        Opcode::POPM => Form::Unused,
+        Opcode::POPM => Form::RegisterList,
         Opcode::PUSH => Form::GeneralOrImmediate,
         Opcode::PUSHA => Form::PushAddress,
         Opcode::PUSHC => Form::Control,
-        Opcode::PUSHM => Form::Unused,
+        Opcode::PUSHM => Form::RegisterList,
         Opcode::RMPA => Form::Block,
         Opcode::ROLC => Form::General,
         Opcode::RORC => Form::General,
         Opcode::ROT => Form::Rotate,
-        Opcode::SBB => Form::Immediate,
+        Opcode::SBB => Form::Arithmetic,
         Opcode::SHA => Form::Shift,
         Opcode::SHL => Form::Shift,
         Opcode::SMOVB => Form::Block,
@@ -209,11 +210,11 @@ pub(crate) fn form_of(o: Opcode) -> Form
         Opcode::STC => Form::StoreControl,
         Opcode::STCTX => Form::StoreContext,
         Opcode::STE => Form::StoreFar,
-        Opcode::SUB => Form::Immediate,
-        Opcode::TST => Form::Immediate,
+        Opcode::SUB => Form::Arithmetic,
+        Opcode::TST => Form::Arithmetic,
         Opcode::WAIT => Form::Plain,
         Opcode::XCHG => Form::Exchange,
-        Opcode::XOR => Form::Immediate,
+        Opcode::XOR => Form::Arithmetic,
     }
 }
 
@@ -226,9 +227,9 @@ pub(crate) fn at_b(f: Form) -> Sets
         Form::SizedGeneral => Sets(0x40059DE0000C0F0, 0x1),
         Form::GeneralOrImmediate => Sets(0x40059DE0000C0F4, 0x1),
         Form::ImmediateAlone => Sets(0x400000000000004, 0x1),
-        Form::Immediate => Sets(0x400000000000004, 0x59DE0000C0F0),
-        Form::Sum => Sets(0x400000000000004, 0x4059DE0000C0F0),
-        Form::Move => Sets(0x400002000000004, 0x59DE0000C0F0),
+        Form::Arithmetic => Sets(0x40059DE0000C0F4, 0x59DE0000C0F0),
+        Form::Sum => Sets(0x40059DE0000C0F4, 0x4059DE0000C0F0),
+        Form::Move => Sets(0x40059FE0000C0F4, 0x59DE0000C0F0),
         Form::Rotate => Sets(0x400000000000080, 0x59DE0000C070),
         Form::Shift => Sets(0x400000000000080, 0x59DE0000C070),
         Form::Decimal => Sets(0x200000000000024, 0x10),
@@ -254,6 +255,7 @@ pub(crate) fn at_b(f: Form) -> Sets
         Form::Exchange => Sets(0x4000000000000F0, 0x59DE0000C0F0),
         Form::StoreControl => Sets(0x200000000000000, 0x1FC000000000000),
         Form::Control => Sets(0x200000000000000, 0x1),
+        Form::RegisterList => Sets(0x200000000000000, 0x1),
     }
 }
 
@@ -266,9 +268,9 @@ pub(crate) fn at_w(f: Form) -> Sets
         Form::SizedGeneral => Sets(0x80059DE0000CF00, 0x1),
         Form::GeneralOrImmediate => Sets(0x80059DE0000CF08, 0x1),
         Form::ImmediateAlone => Sets(0x800000000000008, 0x1),
-        Form::Immediate => Sets(0x800000000000008, 0x59DE0000CF00),
-        Form::Sum => Sets(0x800000000000008, 0x4059DE0000CF00),
-        Form::Move => Sets(0x800002000000008, 0x59DE0000CF00),
+        Form::Arithmetic => Sets(0x80059DE0000CF08, 0x59DE0000CF00),
+        Form::Sum => Sets(0x80059DE0000CF08, 0x4059DE0000CF00),
+        Form::Move => Sets(0x80059FE0000CF08, 0x59DE0000CF00),
         Form::Rotate => Sets(0x800000000000080, 0x59DE0000CD00),
         Form::Shift => Sets(0x800000000000080, 0x59DE0000CD00),
         Form::Decimal => Sets(0x200000000000208, 0x100),
@@ -294,6 +296,7 @@ pub(crate) fn at_w(f: Form) -> Sets
         Form::Exchange => Sets(0x800000000000F00, 0x59DE0000CF00),
         Form::StoreControl => Sets(0x20059DE0000CF00, 0x1FC000000000000),
         Form::Control => Sets(0x200000000000000, 0x1),
+        Form::RegisterList => Sets(0x200000000000000, 0x1),
     }
 }
 
@@ -306,7 +309,7 @@ pub(crate) fn at_none(f: Form) -> Sets
         Form::SizedGeneral => Sets(0x1000000000000000, 0x1),
         Form::GeneralOrImmediate => Sets(0x1000000000000000, 0x1),
         Form::ImmediateAlone => Sets(0x1000000000000000, 0x1),
-        Form::Immediate => Sets(0x1000000000000000, 0x0),
+        Form::Arithmetic => Sets(0x1000000000000000, 0x0),
         Form::Sum => Sets(0x1000000000000000, 0x40000000000000),
         Form::Move => Sets(0x1000002000000000, 0x0),
         Form::Rotate => Sets(0x1000000000000080, 0x0),
@@ -334,5 +337,6 @@ pub(crate) fn at_none(f: Form) -> Sets
         Form::Exchange => Sets(0x1000000000000000, 0x0),
         Form::StoreControl => Sets(0x200000000000000, 0x1FC000000000000),
         Form::Control => Sets(0x3FC000000000000, 0x1),
+        Form::RegisterList => Sets(0x202000000000000, 0x1),
     }
 }

@@ -19,7 +19,7 @@ pub fn is_wide(o: Operand) -> bool
     sets::has(WIDE, o)
 }
 
-// Its number is part of the code: at no width, Imm4 and Imm8.
+// Its number is part of the code: at no width, Imm4, Imm8 and RegList.
 pub fn is_whole(w: Width, o: Operand) -> bool
     ensures { λ r. ⌜ r ≡ whole w o ⌝ }
 {
@@ -27,7 +27,10 @@ pub fn is_whole(w: Width, o: Operand) -> bool
         if fields::same_name(o, Operand::Imm4) {
             return true;
         }
-        return fields::same_name(o, Operand::Imm8);
+        if fields::same_name(o, Operand::Imm8) {
+            return true;
+        }
+        return fields::same_name(o, Operand::RegList);
     }
     false
 }

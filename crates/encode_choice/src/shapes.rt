@@ -75,6 +75,19 @@ pub(crate) fn twice(f: u8, q: Asked) -> Code
     binary(f, name_sets::code_of(op0) as u64, q)
 }
 
+// An immediate form, or one of two operands.
+pub(crate) fn arithmetic(a: u8, h: u64, f: u8, q: Asked) -> Code
+    requires { ⌜ (a ≤ 0xFE) × (h ≤ 15) × (f ≤ 0xFE) ⌝ }
+    ensures { λ r. ⌜ r ≡ coded (choice.arithmetic a h f q) ⌝ }
+{
+    let op0 = q.op0;
+    if names::is_wide(op0) {
+        binary(a, h, q)
+    } else {
+        twice(f, q)
+    }
+}
+
 // An immediate alone, or operand 0 is G(n).
 pub(crate) fn imm_or_unary(b: u64, f: u8, h: u64, q: Asked) -> Code
     requires { ⌜ (f ≤ 0xFE) × (h ≤ 15) ⌝ }

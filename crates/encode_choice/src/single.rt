@@ -9,6 +9,7 @@ ghost use Rattle.encode_choice.specs.steps.Coded.{coded};
 use crate::Asked;
 use crate::Code;
 use crate::name_sets;
+use crate::names;
 use crate::shapes;
 use record::Operand;
 use record::fields;
@@ -25,12 +26,15 @@ pub(crate) fn fixed(a: u8, b: u64) -> Code
 pub(crate) fn add(q: Asked) -> Code
     ensures { λ r. ⌜ r ≡ coded (chooseBy ADD q) ⌝ }
 {
+    let op0 = q.op0;
     let op1 = q.op1;
     if fields::same_name(op1, Operand::SP) {
-        shapes::only(0x7C, 0xEB, q)
-    } else {
-        shapes::binary(0x76, 4, q)
+        if names::is_wide(op0) {
+            return shapes::only(0x7C, 0xEB, q);
+        }
+        return fixed(0, 0);
     }
+    shapes::arithmetic(0x76, 4, 0xA0, q)
 }
 
 pub(crate) fn exts(q: Asked) -> Code
@@ -47,6 +51,13 @@ pub(crate) fn int(q: Asked) -> Code
     ensures { λ r. ⌜ r ≡ coded (chooseBy INT q) ⌝ }
 {
     fixed(0xEB, 0xC0 + (q.number as u64))
+}
+
+// PUSHM and POPM: the list is the second byte.
+pub(crate) fn list(a: u8, q: Asked) -> Code
+    ensures { λ r. ⌜ r ≡ coded (code a (q .number)) ⌝ }
+{
+    fixed(a, q.number as u64)
 }
 
 // JMPI and JSRI, from 0 or 10 on.
@@ -106,7 +117,7 @@ pub(crate) fn mov(q: Asked) -> Code
     if fields::same_name(op0, Operand::Disp8_SP) {
         shapes::binary(0x74, 0xB, q)
     } else {
-        shapes::binary(0x74, 0xC, q)
+        shapes::arithmetic(0x74, 0xC, 0x72, q)
     }
 }
 

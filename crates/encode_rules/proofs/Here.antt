@@ -7,7 +7,7 @@ use lib.Dec.{T}
 use Rattle.record.specs.declared.Record.{Record}
 use Rattle.record.specs.Same.{fieldOf, key}
 use Rattle.rows.specs.All.{everyCode}
-use Rattle.rows.specs.Rows.{known, rowsOf, document01}
+use Rattle.rows.specs.Groups.{known, rowsOf, document01}
 use Rattle.rows.proofs.All.{every-code}
 use Rattle.encode_rules.specs.Says.{Right}
 use Rattle.encode_rules.specs.steps.Search.{disps, imms, conds, tidy, plain, best}

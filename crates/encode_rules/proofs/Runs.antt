@@ -16,7 +16,7 @@ use Rattle.record.specs.declared.Seen.{Seen}
 use Rattle.record.specs.declared.Got.the-variants.{On, Short}
 use Rattle.rows.specs.Row.{disp, imm, imm20, Refusal, InvalidOpcode, InvalidOperand, refusalNo, Read, num, cond, stop, Condition, named, unnamed, Face}
 use Rattle.rows.specs.Codes.{condOf}
-use Rattle.rows.specs.Run.{bytes, withDisp, inFull, inTwenty, readDisp, readInto, accepted, refusal, andThen, past, renamed, judged, run}
+use Rattle.rows.specs.Run.{bytes, withDisp, inFull, inTwenty, readDisp, readInto, acceptedBy, refusal, andThen, past, renamed, judged, run}
 use Rattle.rows.proofs.Bytes.{bytes-small, drop-bytes}
 use Rattle.encode_rules.specs.steps.Digits.{some, grab, digits}
 use Rattle.rows.specs.Bytes.{Bytes}
@@ -24,7 +24,7 @@ use Rattle.encode_rules.proofs.Digits.{spelled, read-back, grab-bytes}
 
 -- the record that is made at the end, and the answer that it is accepted with
 abbrev pub made : Face → Seen → Record
-made f s = accepted (f .opcode) (f .size) (f .width) (f .op0) (f .op1) (f .marked) s .inst
+made f s = acceptedBy f s .inst
 
 abbrev pub good : Record → Answer
 good t = record { inst = t; taken = t .length; refusal = 0 }

@@ -11,7 +11,7 @@ use lib.Dec.{leb}
 use borrow.Author.Tests.{leb-true}
 use Rattle.laws.specs.Choice.{pick}
 use Rattle.record.specs.declared.Record.{Record}
-use Rattle.rows.specs.Rows.{document01}
+use Rattle.rows.specs.Groups.{document01}
 use Rattle.encode_rules.specs.Says.{Found, bytes, none}
 use Rattle.encode_rules.specs.Written.{Left, outcome, written, Encodes}
 use Rattle.encode_rules.proofs.Optimal.{unique}

@@ -12,7 +12,7 @@ use Rattle.record.specs.declared.Part.{Part}
 use Rattle.record.specs.declared.Parts.{Parts}
 use Rattle.record.specs.declared.Seen.{Seen}
 use Rattle.record.specs.Parts.{part, noPart, noParts}
-use Rattle.rows.specs.Rows.{document01}
+use Rattle.rows.specs.Groups.{document01}
 use Rattle.rows.specs.Run.{accepted, refusal, decodeRows}
 use Rattle.encode_rules.specs.Says.{bytes, Right}
 

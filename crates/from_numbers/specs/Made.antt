@@ -41,6 +41,7 @@ madeOf ns = record {
   op2 = operandAt (getD ns 6 0);
   marked = false;
   dropped = false;
+  registers = 0;
   parts = noParts;
 }
 

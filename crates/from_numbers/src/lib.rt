@@ -57,6 +57,7 @@ fn made_of(numbers: &[u32]) -> Record
         op2: names::operand_at(numbers[6]),
         marked: false,
         dropped: false,
+        registers: 0,
         parts: record::NO_PARTS,
     }
 }

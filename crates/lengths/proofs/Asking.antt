@@ -7,32 +7,24 @@ use mathlib.Core.List.{List, [], _∷_}
 use native.Mathlib.Omega.{arith}
 use lib.ListN.{length, getD}
 use Rattle.laws.proofs.Choice.{pick-holds}
-use Rattle.rows.specs.Rows.{groups, known, document01}
+use Rattle.rows.specs.Groups.{known, document01}
 use Rattle.lengths.specs.declared.Asked.{Asked}
 use Rattle.lengths.specs.declared.Asked.the-variants.{Code, Refused}
 use Rattle.lengths.specs.Length.{LengthOf}
-use Rattle.lengths.specs.steps.Table.{firsts}
+use Rattle.lengths.specs.steps.Table.{rows}
 use Rattle.lengths.specs.steps.Entry.{place, entryAt, refusalIn, lengthIn, askedOf}
-use Rattle.lengths.proofs.Place.{known-stands, unknown-past}
+use Rattle.lengths.proofs.Place.{below, past}
 use Rattle.lengths.proofs.Laws.{of-outside, of-none, of-one}
 use Rattle.lengths.proofs.Rule.{entry-right}
 
-below : (a : ℕ) → known a ≡ true → place a < firsts
-unfolding known place groups
-below a e = known-stands a groups e .below
-
-past : (a : ℕ) → known a ≡ false → place a ≡ firsts
-unfolding known place groups
-past a e = unknown-past a groups e
-
-past-unknown : (a : ℕ) → place a ≡ firsts → known a ≡ false
+past-unknown : (a : ℕ) → place a ≡ rows → known a ≡ false
 past-unknown a p = by (known a) refl
   where
     by : (x : Bool) → known a ≡ x → x ≡ false
     by true e = absurd (omega (arith, below a e))
     by false e = refl
 
-inside-known : (a : ℕ) → (place a ≡ firsts → ⊥) → known a ≡ true
+inside-known : (a : ℕ) → (place a ≡ rows → ⊥) → known a ≡ true
 inside-known a p = by (known a) refl
   where
     by : (x : Bool) → known a ≡ x → x ≡ true
@@ -45,19 +37,19 @@ unfolding askedOf
 none [] l = refl
 none (a ∷ bs) l = absurd (omega arith)
 
-pub outside : (bs : List ℕ) {p : ℕ} → 0 < length bs → p ≡ place (getD bs 0 0) → p ≡ firsts → Refused 4 ≡ askedOf bs
+pub outside : (bs : List ℕ) {p : ℕ} → 0 < length bs → p ≡ place (getD bs 0 0) → p ≡ rows → Refused 4 ≡ askedOf bs
 unfolding askedOf
 outside [] l e p = absurd (omega arith)
 outside (a ∷ []) l e p = rw (past-unknown a (sym e ∙ p)) refl
 outside (a ∷ b ∷ bs) l e p = rw (past-unknown a (sym e ∙ p)) refl
 
-pub one : (bs : List ℕ) {p : ℕ} → length bs ≡ 1 → p ≡ place (getD bs 0 0) → (p ≡ firsts → ⊥) → Refused 1 ≡ askedOf bs
+pub one : (bs : List ℕ) {p : ℕ} → length bs ≡ 1 → p ≡ place (getD bs 0 0) → (p ≡ rows → ⊥) → Refused 1 ≡ askedOf bs
 unfolding askedOf
 one [] l e p = absurd (omega arith)
 one (a ∷ []) l e p = rw (inside-known a (λ q. p (e ∙ q))) refl
 one (a ∷ b ∷ bs) l e p = absurd (omega arith)
 
-pub code : (bs : List ℕ) {p : ℕ} → 1 < length bs → p ≡ place (getD bs 0 0) → (p ≡ firsts → ⊥) → Code p (getD bs 1 0) ≡ askedOf bs
+pub code : (bs : List ℕ) {p : ℕ} → 1 < length bs → p ≡ place (getD bs 0 0) → (p ≡ rows → ⊥) → Code p (getD bs 1 0) ≡ askedOf bs
 unfolding askedOf
 code [] l e p = absurd (omega arith)
 code (a ∷ []) l e p = absurd (omega arith)
@@ -65,7 +57,7 @@ code (a ∷ b ∷ bs) l e p = rw (inside-known a (λ q. p (e ∙ q)), e) refl
 
 -- what is asked for is a known code, whose entry is in the table, and right
 pub record Asks (bs : List ℕ) (p b : ℕ) : Type 0 where
-  pub below : p < firsts
+  pub below : p < rows
   pub right : b < 256 → LengthOf document01 bs (refusalIn (entryAt p b)) (lengthIn (entryAt p b))
 
 abbrev Meets : List ℕ → Asked → Type 0

@@ -1,48 +1,61 @@
--- The place of a first byte among those of any list of groups: there it stands if it is one of them, else the place is behind them all.
+-- The place of a first byte's row: a known one has a row, and one outside is past all rows.
 -- Assumes nothing.
-use Prim.Native.Nat.{ℕ, suc, _-_, _<_}
-use mathlib.Core.Path.{_≡_, refl, sym, ap, subst}
+use Prim.Native.Nat.{ℕ, suc, _<_}
+use mathlib.Core.Path.{_≡_, refl, sym, ap, subst, _∙_}
 use mathlib.Core.Bool.{Bool, true, false}
 use mathlib.Core.List.{List, [], _∷_}
-use native.Mathlib.Omega.{arith}
-use lib.ListN.{length, getD}
-use lib.Dec.{T, eqb, leb, ltb}
+use lib.ListN.{length}
+use lib.Dec.{T, eqb, ltb, ltb→lt}
 use borrow.Author.Tests.{eqb-true}
-use Rattle.laws.specs.Choice.{pick}
+use Rattle.laws.specs.Choice.{both, either}
 use Rattle.laws.proofs.Agree.{agree}
-use Rattle.rows.specs.Rows.{Group, knownIn}
-use Rattle.lengths.specs.steps.Table.{firsts}
+use Rattle.laws.proofs.Choice.{both-left, both-right}
+use Rattle.rows.specs.All.{everyFirst}
+use Rattle.rows.specs.Groups.{groups, known}
+use Rattle.rows.specs.Lists.{oneOf}
+use Rattle.rows.proofs.All.{every-first}
+use Rattle.lengths.specs.steps.Table.{rows, sharing}
 use Rattle.lengths.specs.steps.Entry.{placeIn, place}
-
-abbrev pub firstsOf : List Group → List ℕ
-firstsOf [] = []
-firstsOf (g ∷ gs) = g .byte ∷ firstsOf gs
+use Rattle.lengths.specs.steps.Found.{found}
 
 -- as place_of finds it
-abbrev found : ℕ → ℕ
-found a = pick (ltb a 0x74) firsts (pick (leb a 0x7E) (a - 0x74) (pick (eqb a 0xEB) 11 firsts))
-
 pub place-found : (a : ℕ) → a < 256 → place a ≡ found a
 unfolding place
 place-found = agree place found 256 refl
 
-module _ (a : ℕ) where
-  pub record Stands (gs : List Group) (p : ℕ) : Type 0 where
-    pub below : p < length (firstsOf gs)
-    pub there : getD (firstsOf gs) p 0 ≡ a
+all-below : T (everyFirst (λ a. ltb (place a) rows) groups)
+unfolding groups place
+all-below = tt
 
-  pub known-stands : (gs : List Group) → knownIn gs a ≡ true → Stands gs (placeIn gs a)
-  known-stands [] e = absurd (subst T (sym e) tt)
-  known-stands (g ∷ gs) e = by (eqb a (g .byte)) refl (known-stands gs)
-    where
-      by : (x : Bool) → eqb a (g .byte) ≡ x → (knownIn gs a ≡ true → Stands gs (placeIn gs a)) → Stands (g ∷ gs) (placeIn (g ∷ gs) a)
-      by true p k = rw p record { below = omega arith; there = sym (eqb-true a (g .byte) p) }
-      by false p k = let s = k (rw p at e) in rw p record { below = omega (arith, s .below); there = s .there }
+pub below : (a : ℕ) → known a ≡ true → place a < rows
+below a e = ltb→lt (place a) rows (every-first (λ a. ltb (place a) rows) all-below a e)
 
-  pub unknown-past : (gs : List Group) → knownIn gs a ≡ false → placeIn gs a ≡ length (firstsOf gs)
-  unknown-past [] e = refl
-  unknown-past (g ∷ gs) e = by (eqb a (g .byte)) refl (unknown-past gs)
+-- only known bytes share rows
+abbrev allKnown : List ℕ → Bool
+allKnown [] = true
+allKnown (a ∷ more) = both (known a) (allKnown more)
+
+abbrev allShare : List (List ℕ) → Bool
+allShare [] = true
+allShare (fs ∷ more) = both (allKnown fs) (allShare more)
+
+all-share : T (allShare sharing)
+unfolding known
+all-share = tt
+
+module _ (a : ℕ) (outside : known a ≡ false) where
+  not-among : (fs : List ℕ) → T (allKnown fs) → oneOf fs a ≡ false
+  not-among [] t = refl
+  not-among (k ∷ ks) t = by (eqb a k) refl (not-among ks (both-right (known k) (allKnown ks) t))
     where
-      by : (x : Bool) → eqb a (g .byte) ≡ x → (knownIn gs a ≡ false → placeIn gs a ≡ length (firstsOf gs)) → placeIn (g ∷ gs) a ≡ length (firstsOf (g ∷ gs))
-      by true p k = absurd (subst T (rw p at e) tt)
-      by false p k = rw p (ap suc (k (rw p at e)))
+      by : (x : Bool) → eqb a k ≡ x → oneOf ks a ≡ false → either x (oneOf ks a) ≡ false
+      by true e n = absurd (subst T (ap known (sym (eqb-true a k e)) ∙ outside) (both-left (known k) (allKnown ks) t))
+      by false e n = n
+
+  past-in : (fss : List (List ℕ)) → T (allShare fss) → placeIn fss a ≡ length fss
+  past-in [] t = refl
+  past-in (fs ∷ fss) t = rw (not-among fs (both-left (allKnown fs) (allShare fss) t)) (ap suc (past-in fss (both-right (allKnown fs) (allShare fss) t)))
+
+  pub past : place a ≡ rows
+  unfolding place
+  past = past-in sharing all-share

@@ -1,7 +1,7 @@
 -- The rule of the table, at every entry: one test, computed over the whole, and the law that it makes.
 -- Assumes nothing.
 use Prim.Native.Nat.{ℕ, _<_}
-use mathlib.Core.Path.{_≡_, subst}
+use mathlib.Core.Path.{_≡_}
 use mathlib.Core.Bool.{Bool, true}
 use mathlib.Core.List.{List, [], _∷_}
 use native.Mathlib.Omega.{arith}
@@ -12,14 +12,15 @@ use Rattle.laws.specs.Choice.{both}
 use Rattle.laws.specs.Table.{every}
 use Rattle.laws.proofs.Choice.{both-left, both-right}
 use Rattle.laws.proofs.Table.{at}
+use Rattle.rows.specs.All.{everyFirst}
 use Rattle.rows.specs.Codes.{condOf}
-use Rattle.rows.specs.Rows.{groups, known, rowsOf, document01}
+use Rattle.rows.specs.Groups.{groups, known, rowsOf, document01}
 use Rattle.rows.specs.Run.{readDisp, readInto, run, runRow, decodeBy, decodeRows}
+use Rattle.rows.proofs.All.{every-first}
 use Rattle.lengths.specs.Length.{OfTwo}
 use Rattle.lengths.specs.steps.Table.{table}
 use Rattle.lengths.specs.steps.Entry.{place, character, valueOf, entryAt, refusalIn, lengthIn}
 use Rattle.lengths.proofs.Fated.{zeros, steady, by-five-zeros}
-use Rattle.lengths.proofs.Place.{firstsOf, known-stands}
 
 -- an entry tells what decoding answers where zeros follow the code, and that is what it answers whatever follows
 unfoldable right : ℕ → ℕ → ℕ → Bool
@@ -27,14 +28,11 @@ right a b x =
     both (eqb (refusalIn x) (decodeRows (a ∷ b ∷ zeros) .refusal))
     (both (eqb (lengthIn x) (decodeRows (a ∷ b ∷ zeros) .inst .length)) (steady document01 a b))
 
-abbrev first : ℕ → ℕ
-first p = getD (firstsOf groups) p 0
-
 abbrev row-right : ℕ → List ℕ → Bool
-row-right p cs = both (eqb (length cs) 256) (every (λ b c. right (first p) b (valueOf c)) 0 cs)
+row-right a cs = both (eqb (length cs) 256) (every (λ b c. right a b (valueOf c)) 0 cs)
 
-all-right : T (every row-right 0 table)
-unfolding table groups right steady decodeBy runRow run readDisp readInto condOf known rowsOf
+all-right : T (everyFirst (λ a. row-right a (getD table (place a) [])) groups)
+unfolding table place groups right steady decodeBy runRow run readDisp readInto condOf known rowsOf
 all-right = tt
 
 -- what the test asks of an entry
@@ -59,14 +57,12 @@ module _ (a b : ℕ) (e : known a ≡ true) (l : b < 256) where
   entry = entryAt (place a) b
 
   entry-passes : T (right a b entry)
-  unfolding table groups known place character
+  unfolding character
   entry-passes =
-      let s = known-stands a groups e in
       let cs = getD table (place a) [] in
-      let r = at row-right [] table all-right (place a) (s .below) in
+      let r = every-first (λ a. row-right a (getD table (place a) [])) all-right a e in
       let n = eqb→eq (length cs) 256 (both-left (eqb (length cs) 256) _ r) in
-      let t = at (λ b c. right (first (place a)) b (valueOf c)) 0 cs (both-right (eqb (length cs) 256) _ r) b (omega arith) in
-      subst (λ f. T (right f b entry)) (s .there) t
+      at (λ b c. right a b (valueOf c)) 0 cs (both-right (eqb (length cs) 256) _ r) b (omega arith)
 
   -- decoding a code with five zeros behind it tells what there is to tell
   pub zeros-tell : OfTwo document01 a b (decodeRows (a ∷ b ∷ zeros) .refusal) (decodeRows (a ∷ b ∷ zeros) .inst .length)

@@ -7,7 +7,7 @@ use mathlib.Core.List.{List, [], _∷_}
 use native.Mathlib.Omega.{arith}
 use lib.ListN.{length, getD}
 use Rattle.record.specs.declared.Answer.{Answer}
-use Rattle.rows.specs.Rows.{known, document01}
+use Rattle.rows.specs.Groups.{known, document01}
 use Rattle.rows.specs.Run.{decodeRows}
 use Rattle.rows.proofs.Refusals.{outside}
 use Rattle.lengths.specs.Length.{OfTwo, LengthOf}

@@ -5,7 +5,7 @@ mod table;
 ghost use mathlib.Core.Path.{_≡_};
 ghost use Prim.Native.Nat.{_<_};
 ghost use lib.ListN.{length};
-ghost use Rattle.rows.specs.Rows.{document01};
+ghost use Rattle.rows.specs.Groups.{document01};
 ghost use Rattle.lengths.specs.Length.{LengthOf};
 ghost use Rattle.lengths.specs.steps.Entry.{valueOf, refusalIn, lengthIn, askedOf};
 use record::refusal;
@@ -16,7 +16,7 @@ pub struct Length {
     pub length: usize,
 }
 
-// A code, by its first byte's place and its second byte; or what is refused without asking the table.
+// A code, by its first byte's row and its second byte; or what is refused without asking the table.
 pub enum Asked {
     Code(usize, u8),
     Refused(u8),
@@ -30,7 +30,7 @@ fn too_few(bytes: &[u8]) -> Asked
     if bytes.len() == 0 {
         return Asked::Refused(refusal::EXHAUSTED_INPUT);
     }
-    if first::place_of(bytes[0]) == table::FIRST_BYTES {
+    if first::place_of(bytes[0]) == table::ROWS {
         return Asked::Refused(refusal::FIRST_BYTE_OUTSIDE);
     }
     Asked::Refused(refusal::EXHAUSTED_INPUT)
@@ -43,7 +43,7 @@ pub fn asked_of(bytes: &[u8]) -> Asked
         return too_few(bytes);
     }
     let place = first::place_of(bytes[0]);
-    if place == table::FIRST_BYTES {
+    if place == table::ROWS {
         return Asked::Refused(refusal::FIRST_BYTE_OUTSIDE);
     }
     Asked::Code(place, bytes[1])

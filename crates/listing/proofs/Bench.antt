@@ -6,7 +6,7 @@ use mathlib.Core.List.{[], _∷_}
 use lib.ListN.{replicate}
 use Rattle.record.specs.Same.{sameName, among, fieldOf}
 use Rattle.record.specs.Signed.{isSigned, numberOf}
-use Rattle.rows.specs.Rows.{known, rowsOf}
+use Rattle.rows.specs.Groups.{known, rowsOf}
 use Rattle.rows.specs.Codes.{condOf}
 use Rattle.rows.specs.Run.{decodeBy, runRow, run, readDisp, readInto}
 use Rattle.sweep.specs.declared.Rule.{Rule}

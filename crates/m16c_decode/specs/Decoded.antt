@@ -42,14 +42,17 @@ numbersOf x =
     ∷ x .inst .length
     ∷ flagNo (x .inst .marked)
     ∷ flagNo (x .inst .dropped)
-    ∷ partNumbers (x .inst .parts)
+    ∷ (partNumbers (x .inst .parts) ++ (x .inst .registers ∷ []))
 
--- so many stand before the parts, and so many are all
+-- so many stand before the parts, so many before what request A7 adds, and so many are all
 abbrev pub partsFrom : ℕ
 partsFrom = 13
 
+abbrev pub registersFrom : ℕ
+registersFrom = 19
+
 abbrev pub entries : ℕ
-entries = 19
+entries = 20
 
 -- the number returned, and the list as it is left
 pub record Delivered : Type 0 where

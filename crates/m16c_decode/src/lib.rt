@@ -4,8 +4,10 @@ ghost use mathlib.Core.List.{_++_};
 ghost use Prim.Native.Nat.{_≤_};
 ghost use lib.ListN.{length, drop};
 ghost use Rattle.laws.specs.Over.{put};
+ghost use Rattle.record.specs.declared.Operand.the-variants.{Nothing};
 ghost use Rattle.m16c_decode.specs.Decoded.{flagNo, partNumbers, partsFrom, numbersOf, entries, Decodes};
 use record::Answer;
+use record::Operand;
 use record::Parts;
 use record::numbers;
 use record::refusal;
@@ -17,9 +19,9 @@ fn flag_number(x: bool) -> u32
 }
 
 // So many numbers are an answer.
-const ENTRIES: usize = 19;
+const ENTRIES: usize = 20;
 
-// Where the numbers of a record stand, over the entries behind the others.
+// Where the numbers of a record stand, over the entries behind the first thirteen.
 fn deliver_parts(parts: Parts, out: &mut [u32])
     requires { ⌜ entries ≤ length (now out) ⌝ }
     ensures { λ r. ⌜ now (out .exit) ≡ put partsFrom (partNumbers parts) (now (out .entry)) ⌝ }
@@ -40,7 +42,7 @@ fn deliver_parts(parts: Parts, out: &mut [u32])
 
 // An answer's numbers over the first entries.
 fn deliver(a: Answer, out: &mut [u32])
-    requires { ⌜ (entries ≤ length (now out)) × (a .taken ≤ 7) × (a .inst .length ≤ 7) ⌝ }
+    requires { ⌜ (entries ≤ length (now out)) × (a .taken ≤ 7) × (a .inst .length ≤ 7) × (a .inst .op2 ≡ Nothing) ⌝ }
     ensures { λ r. ⌜ now (out .exit) ≡ numbersOf a ++ drop entries (now (out .entry)) ⌝ }
 {
     let inst = a.inst;
@@ -49,14 +51,14 @@ fn deliver(a: Answer, out: &mut [u32])
     let width = inst.width;
     let op0 = inst.op0;
     let op1 = inst.op1;
-    let op2 = inst.op2;
+    out[19] = inst.registers as u32;
     out[0] = a.taken as u32;
     out[1] = numbers::opcode_number(opcode);
     out[2] = numbers::size_number(size);
     out[3] = numbers::width_number(width);
     out[4] = numbers::operand_number(op0);
     out[5] = numbers::operand_number(op1);
-    out[6] = numbers::operand_number(op2);
+    out[6] = numbers::operand_number(Operand::Nothing); // no row has a third operand
     out[7] = inst.imm_wide;
     out[8] = inst.dispabs as u32;
     out[9] = inst.first as u32;
@@ -66,9 +68,9 @@ fn deliver(a: Answer, out: &mut [u32])
     deliver_parts(inst.parts, out);
 }
 
-// Decodes at a place of an image. Returns the refusal, 0 for none, and fills nineteen entries: taken, opcode, size, width, three
+// Decodes at a place of an image. Returns the refusal, 0 for none, and fills twenty entries: taken, opcode, size, width, three
 // operands, imm_wide, dispabs, first, length, marked, dropped, then offset and width of the bytes that first, dispabs and imm_wide were
-// read from. With fewer than nineteen entries it returns 6 and touches none.
+// read from, and how many registers a list names. With fewer than twenty entries it returns 6 and touches none.
 #[no_mangle]
 pub extern "C" fn m16c_decode(image: &[u8], at: usize, out: &mut [u32]) -> u32
     ensures { λ r. ⌜ Decodes (now (image .entry)) at (now (out .entry)) r (now (out .exit)) ⌝ }

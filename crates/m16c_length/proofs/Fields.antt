@@ -9,7 +9,7 @@ use Rattle.laws.specs.Choice.{pick}
 use Rattle.laws.specs.Range.{upto}
 use Rattle.laws.proofs.Range.{upto-at}
 use Rattle.laws.proofs.Agree.{listed, among, Rest, agree-past}
-use Rattle.lengths.specs.steps.Table.{firsts, table}
+use Rattle.lengths.specs.steps.Table.{rows, table}
 use Rattle.lengths.specs.steps.Entry.{character, entryAt}
 use Rattle.m16c_length.specs.steps.Packed.{wordAt, fieldAt}
 
@@ -23,9 +23,9 @@ told-last {a} {w} ks e l r = sym (agree-past ks w wordAt (λ k. w) 256 e a l r)
 abbrev same : ℕ → ℕ → Bool
 same p b = eqb (entryAt p b) (fieldAt (wordAt b) p)
 
-all-same : T (upto (λ p. upto (same p) 256) firsts)
+all-same : T (upto (λ p. upto (same p) 256) rows)
 unfolding upto table character wordAt
 all-same = tt
 
-pub each-entry : (p b : ℕ) → p < firsts → b < 256 → entryAt p b ≡ fieldAt (wordAt b) p
-each-entry p b h l = eqb→eq _ _ (upto-at (same p) 256 (upto-at (λ p. upto (same p) 256) firsts all-same p h) b l)
+pub each-entry : (p b : ℕ) → p < rows → b < 256 → entryAt p b ≡ fieldAt (wordAt b) p
+each-entry p b h l = eqb→eq _ _ (upto-at (same p) 256 (upto-at (λ p. upto (same p) 256) rows all-same p h) b l)

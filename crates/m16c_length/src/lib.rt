@@ -3,14 +3,14 @@ mod words;
 
 ghost use mathlib.Core.Path.{_≡_};
 ghost use Prim.Native.Nat.{_<_};
-ghost use Rattle.rows.specs.Rows.{document01};
+ghost use Rattle.rows.specs.Groups.{document01};
 ghost use Rattle.lengths.specs.Length.{LengthOf};
-ghost use Rattle.lengths.specs.steps.Table.{firsts};
+ghost use Rattle.lengths.specs.steps.Table.{rows};
 ghost use Rattle.lengths.specs.steps.Entry.{entryAt};
 use lengths::Asked;
 
 fn entry_at(place: usize, second: usize) -> u32
-    requires { ⌜ (place < firsts) × (second < 256) ⌝ }
+    requires { ⌜ (place < rows) × (second < 256) ⌝ }
     ensures { λ r. ⌜ r ≡ entryAt place second ⌝ }
 {
     let word = words::word_of(second);

@@ -5,7 +5,7 @@ use mathlib.Core.Path.{_≡_, refl}
 use mathlib.Core.List.{List, [], _∷_}
 use Rattle.record.specs.Same.{sameName, among, fieldOf}
 use Rattle.record.specs.Signed.{isSigned, numberOf}
-use Rattle.rows.specs.Rows.{known, rowsOf}
+use Rattle.rows.specs.Groups.{known, rowsOf}
 use Rattle.rows.specs.Codes.{condOf}
 use Rattle.rows.specs.Run.{decodeBy, runRow, run, readDisp, readInto}
 use Rattle.laws.specs.Text.{spelled}

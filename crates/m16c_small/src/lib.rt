@@ -1,6 +1,6 @@
 // The functions for C of the small archive: in one crate, and so in one object, where the decoder stands once. The sweep is not among
 // them: it keeps no record, and behind a decoder that makes one it takes over three times its instructions.
-ghost use Rattle.rows.specs.Rows.{document01};
+ghost use Rattle.rows.specs.Groups.{document01};
 ghost use Rattle.encode_rules.specs.Written.{outcome};
 ghost use Rattle.lengths.specs.Length.{LengthOf};
 ghost use Rattle.m16c_decode.specs.Decoded.{Decodes};

@@ -104,6 +104,6 @@ pub determined-condition : (c : ℕ) → c < 256 → (d : Condition) → packedC
 determined-condition c h d p = injective-condition d (conditionAt c) (p ∙ sym (held-condition c h))
 
 -- how many codes have a meaning
-pub meanings : count ≡ 2556
+pub meanings : count ≡ 8146
 unfolding count
 meanings = refl

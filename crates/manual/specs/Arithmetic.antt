@@ -6,9 +6,9 @@ use Rattle.laws.specs.Choice.{pick}
 use Rattle.record.specs.declared.Opcode.{Opcode}
 use Rattle.record.specs.declared.Opcode.the-variants.{ADD, EXTS, MUL}
 use Rattle.record.specs.declared.Operand.{Operand}
-use Rattle.record.specs.declared.Operand.the-variants.{Imm4, Imm8, R0L, R0H, R1L, R1H, R0, R1, SP}
+use Rattle.record.specs.declared.Operand.the-variants.{Imm4, Imm8, R0L, R0H, R1H, R0, R1, SP}
 use Rattle.manual.specs.Meaning.{Suffix, B, W, L, plus, minus, within, Entry}
-use Rattle.manual.specs.Codes.{Choice, stands, barred, reg, line, memory, byteTable, wordTable, bySize, general, imm, mulDest, shiftDest, extsTable, srcFirst, destFirst, only}
+use Rattle.manual.specs.Codes.{Choice, stands, reg, line, noAddress, byteTable, wordTable, bySize, general, imm, mulDest, shiftDest, extsTable, srcFirst, destFirst, only}
 
 -- OP.size #IMM,dest: 76/77 0n TST, 1n XOR, 2n AND:G, 3n OR:G, 4n ADD:G, 5n SUB:G, 6n ADC, 7n SBB, 8n CMP:G
 abbrev pub immToDest : Opcode → Suffix → ℕ → Entry
@@ -22,9 +22,9 @@ unary o s n = only o s (general s n)
 abbrev pub divImm : Opcode → Suffix → Entry
 divImm o s = only o s (imm s)
 
--- src of MUL.size: at .B neither A0 nor A1 where dest is A0, code 4 (no witness checks this)
+-- src of MUL.size: at .B neither A0 nor A1 where dest is A0, code 4
 abbrev pub mulSrc : ℕ → Suffix → ℕ → Choice
-mulSrc n = bySize (pick (eqb n 4) (reg R0L ∷ reg R0H ∷ reg R1L ∷ reg R1H ∷ barred ∷ barred ∷ memory) byteTable) wordTable
+mulSrc n = bySize (pick (eqb n 4) noAddress byteTable) wordTable
 
 -- MUL.size src,dest: 78/79 hn, h the source
 abbrev pub mul : Suffix → ℕ → ℕ → Entry

@@ -57,6 +57,10 @@ general = bySize byteTable wordTable
 abbrev pub imm : Suffix → Choice
 imm s = bySize (takes Imm8 1 ∷ []) (takes Imm16 2 ∷ []) s 0
 
+-- src where A0 and A1 cannot be selected at .B (no witness checks this)
+abbrev pub noAddress : List Choice
+noAddress = reg R0L ∷ reg R0H ∷ reg R1L ∷ reg R1H ∷ barred ∷ barred ∷ memory
+
 -- dest of MUL and MULU: at .B not R0H, R1H, A1; at .W not R2, R3, A1 (no witness checks these)
 abbrev pub mulDest : Suffix → ℕ → Choice
 mulDest =

@@ -6,9 +6,10 @@ use lib.Dec.{ltb, eqb}
 use lib.ListN.{length, getD}
 use Rattle.laws.specs.Choice.{pick}
 use Rattle.laws.specs.Range.{total}
+use Rattle.record.specs.declared.Opcode.{Opcode}
 use Rattle.record.specs.declared.Opcode.the-variants.{ABS, ADC, ADCF, ADD, AND, BAND, BCLR, BNAND, BNOR, BNOT, BNTST, BNXOR, BOR, BSET, BTST, BTSTC, BTSTS, BXOR, CMP}
-use Rattle.record.specs.declared.Opcode.the-variants.{DADC, DADD, DIV, DIVU, DIVX, DSBB, DSUB, FCLR, FSET, JMPI, JSRI, LDCTX, MOVHH, MOVHL, MOVLH, MOVLL, MUL, MULU}
-use Rattle.record.specs.declared.Opcode.the-variants.{NEG, NOT, OR, POPC, PUSHC, RMPA, ROLC, RORC, ROT, SBB, SHA, SHL, SMOVB, SMOVF, SSTR, STCTX, SUB, TST, XOR}
+use Rattle.record.specs.declared.Opcode.the-variants.{DADC, DADD, DIV, DIVU, DIVX, DSBB, DSUB, FCLR, FSET, JMPI, JSRI, LDCTX, MOV, MOVHH, MOVHL, MOVLH, MOVLL, MUL, MULU}
+use Rattle.record.specs.declared.Opcode.the-variants.{NEG, NOT, OR, POPC, POPM, PUSHC, PUSHM, RMPA, ROLC, RORC, ROT, SBB, SHA, SHL, SMOVB, SMOVF, SSTR, STCTX, SUB, TST, XOR}
 use Rattle.record.specs.declared.Operand.the-variants.{R2R0, R3R1}
 use Rattle.manual.specs.Meaning.{Suffix, B, W, Entry, meaning, empty}
 use Rattle.manual.specs.Codes.{blank}
@@ -16,6 +17,8 @@ use Rattle.manual.specs.Transfer.{abs20, dsp20, a1a0, ste, lde, movToSta
 use Rattle.manual.specs.Arithmetic.{immToDest, unary, divImm, mul, mulImm, decimal, decimalImm, addStack, addStackQuick, extsByte, extsWord, shift, shiftLong, shiftLongImm}
 use Rattle.manual.specs.Bits.{bit, bmcnd, bmcndCarry}
 use Rattle.manual.specs.Jumps.{jumpLongTo, jumpWordTo, jcnd}
+use Rattle.manual.specs.TwoOperand.{srcToDest}
+use Rattle.manual.specs.RegisterList.{registerList}
 use Rattle.manual.specs.Control.{ldc, ldcImm, stc, stcCounter, control, flagOp, ldipl, int, context, string, enter, exitd, wait}
 
 -- one of the rows, or a blank one past their end
@@ -117,6 +120,20 @@ atEB =
     shiftLongImm SHL R2R0 ∷ shiftLongImm SHL R3R1 ∷ shiftLongImm SHA R2R0 ∷ shiftLongImm SHA R3R1 ∷
     intEB 0 ∷ intEB 1 ∷ intEB 2 ∷ intEB 3 ∷ [])
 
+-- the instructions of two operands: OP.B by the even first byte, OP.W by the odd one behind it
+pub record Pair : Type 0 where
+  pub even : ℕ
+  pub mnemonic : Opcode
+
+abbrev pair : ℕ → Opcode → Pair
+pair a o = record { even = a; mnemonic = o }
+
+abbrev pub pairs : List Pair
+pairs =
+    pair 0x72 MOV ∷ pair 0x80 TST ∷ pair 0x88 XOR ∷ pair 0x90 AND ∷ pair 0x98 OR
+    ∷ pair 0xA0 ADD ∷ pair 0xA8 SUB ∷ pair 0xB0 ADC ∷ pair 0xB8 SBB ∷ pair 0xC0 CMP
+    ∷ []
+
 -- a first byte and its rows
 pub record First : Type 0 where
   pub byte : ℕ
@@ -124,6 +141,10 @@ pub record First : Type 0 where
 
 abbrev first : ℕ → (ℕ → ℕ → Entry) → First
 first a es = record { byte = a; entries = es }
+
+abbrev pub bothSizes : List Pair → List First → List First
+bothSizes [] fs = fs
+bothSizes (p ∷ ps) fs = first (p .even) (srcToDest (p .mnemonic) B) ∷ first (p .even + 1) (srcToDest (p .mnemonic) W) ∷ bothSizes ps fs
 
 -- the first bytes
 abbrev pub firsts : List First
@@ -137,7 +158,7 @@ firsts =
     ∷ first 0x7D at7D
     ∷ first 0x7E at7E
     ∷ first 0xEB atEB
-    ∷ []
+    ∷ bothSizes pairs (first 0xEC (registerList PUSHM) ∷ first 0xED (registerList POPM) ∷ [])
 
 abbrev pub firstBytes : List ℕ
 firstBytes = map (λ f. f .byte) firsts

@@ -5,5 +5,7 @@ pub mod Arithmetic
 pub mod Bits
 pub mod Jumps
 pub mod Control
+pub mod TwoOperand
+pub mod RegisterList
 pub mod Entries
 pub mod Packed

@@ -39,6 +39,7 @@ pub fn accept(
         marked: marked,
         dropped: s.dropped,
         parts: parts,
+        registers: 0,
     };
     Answer {
         inst: r,

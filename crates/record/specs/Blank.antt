@@ -1,4 +1,5 @@
--- Document 01, "Blank record": NOP, three Nothing, zeros, no width, unmarked; by request A6 nothing dropped, by request A5 no parts.
+-- Document 01, "Blank record": NOP, three Nothing, zeros, no width, unmarked; by request A6 nothing dropped, by request A5 no parts, by
+-- request A7 no registers.
 use mathlib.Core.Bool.{false}
 use Rattle.record.specs.declared.Record.{Record}
 use Rattle.record.specs.declared.Opcode.the-variants.{NOP}
@@ -22,4 +23,5 @@ blank = record {
   marked = false;
   dropped = false;
   parts = noParts;
+  registers = 0;
 }

@@ -1,12 +1,12 @@
--- A record with other numbers: what decoding reads is told anew, names, length and mark are as they were.
+-- A record with other numbers: what decoding reads and counts is told anew, names, length and mark are as they were.
 use Prim.Native.Nat.{ℕ}
 use mathlib.Core.Bool.{Bool}
 use Rattle.record.specs.declared.Parts.{Parts}
 use Rattle.record.specs.declared.Record.{Record}
 
--- imm_wide, dispabs, first, whether bits were dropped, where the numbers stand
-abbrev pub numbered : ℕ → ℕ → ℕ → Bool → Parts → Record → Record
-numbered wide short early dropped parts r = record {
+-- imm_wide, dispabs, first, whether bits were dropped, where the numbers stand, how many registers are named
+abbrev pub numbered : ℕ → ℕ → ℕ → Bool → Parts → ℕ → Record → Record
+numbered wide short early dropped parts registers r = record {
   «imm_wide» = wide;
   dispabs = short;
   first = early;
@@ -20,4 +20,5 @@ numbered wide short early dropped parts r = record {
   marked = r .marked;
   dropped = dropped;
   parts = parts;
+  registers = registers;
 }

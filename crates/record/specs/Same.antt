@@ -79,7 +79,7 @@ valueOf wide r = r .«imm_wide»
 valueOf short r = r .dispabs
 valueOf early r = r .first
 
--- all that counts: not length, not marked, not dropped, no parts, no field that no operand names. (No row has a third operand; in a record made otherwise its number is its name's field.)
+-- all that counts: not length, not marked, not dropped, no parts, not how many registers are named, no field that no operand names. (No row has a third operand; in a record made otherwise its number is its name's field.)
 abbrev pub key : Record → Key
 key r = record {
   opcode = r .opcode;

@@ -196,20 +196,22 @@ pub struct Parts {
     pub imm_wide: Part,
 }
 
-// The Rust's `operands: [OperandSpec; 3]` are three fields. (What is one byte stands first: so the compiled decoder takes some instructions
-// fewer, and `parts` first in `Seen`.)
+// The Rust's `operands: [OperandSpec; 3]` are three fields. (What is one byte stands first, and `op2`, which no row has, behind the rest of it:
+// so the compiled decoder takes some instructions fewer, and with `parts` first in `Seen`.)
 pub struct Record {
     pub opcode: Opcode,
     pub size: Size,
     pub width: Width,
     pub op0: Operand,
     pub op1: Operand,
-    pub op2: Operand,
+    // How many registers the list of PUSHM or POPM names; 0 in every other record.
+    pub registers: u8,
     // The row reads this code otherwise than the maker's manual, or document 01 stars it.
     pub marked: bool,
     // A 20-bit number was read from three bytes of which the upper nibble, which is not kept, was not zero.
     pub dropped: bool,
     pub parts: Parts,
+    pub op2: Operand,
     pub imm_wide: u32,
     pub dispabs: u16,
     // The earlier of two displacements; `dispabs` has the later.
@@ -245,6 +247,7 @@ pub const BLANK: Record = Record {
     marked: false,
     dropped: false,
     parts: NO_PARTS,
+    registers: 0,
 };
 
 // All that counts of a record: two records are the same instruction if these agree.

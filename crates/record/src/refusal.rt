@@ -7,7 +7,7 @@ pub const INVALID_OPCODE: u8 = 2; // decoding: no instruction has this code or t
 
 pub const INVALID_OPERAND: u8 = 3; // decoding: the instruction does not take this operand
 
-pub const FIRST_BYTE_OUTSIDE: u8 = 4; // decoding: not one of the twelve first bytes that are decoded here
+pub const FIRST_BYTE_OUTSIDE: u8 = 4; // decoding: not one of the 34 first bytes that are decoded here
 
 pub const NO_STRING: u8 = 5; // encoding: no bytes decode to this instruction, but for those of marked rows; asked for a number: there is none
 

@@ -1,4 +1,5 @@
--- A line with bytes and where the numbers of their record stand (request A5): which text is one, and when it is right.
+-- A line with bytes, where the numbers of their record stand (request A5) and how many registers it names (request A7): which text is one,
+-- and when it is right.
 use Prim.Native.Nat.{ℕ, _+_}
 use mathlib.Core.Path.{_≡_}
 use mathlib.Core.List.{List}
@@ -10,9 +11,9 @@ use Rattle.replay.specs.Form.{Gives}
 use Rattle.replay.specs.Given.{answerAt}
 use Rattle.replay.specs.Hex.{digitAt}
 
--- bytes given, eight bytes; refusal; offset and width of first, of dispabs, of imm_wide
+-- bytes given, eight bytes; refusal; offset and width of first, of dispabs, of imm_wide; registers
 abbrev pub form : List ℕ
-form = spelled "P# ################ # ## ## ##                  \n"
+form = spelled "P# ################ # ## ## ## #                \n"
 
 -- the texts that are such a line: not more bytes are given than the eight there
 abbrev pub Whole : List ℕ → Type 0
@@ -25,7 +26,8 @@ partAt s at = part (digitAt s at) (digitAt s (at + 1))
 abbrev pub partsIn : List ℕ → Parts
 partsIn s = record { «imm_wide» = partAt s 28; dispabs = partAt s 25; first = partAt s 22 }
 
--- the refusal and the parts that the line says are those of the answer
+-- the refusal, the parts and the count that the line says are those of the answer
 pub record Right (s : List ℕ) : Type 0 where
   pub refusal : answerAt s 1 .refusal ≡ digitAt s 20
   pub parts : answerAt s 1 .inst .parts ≡ partsIn s
+  pub registers : answerAt s 1 .inst .registers ≡ digitAt s 31

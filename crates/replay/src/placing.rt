@@ -1,4 +1,4 @@
-// A line with bytes, and where decoding them says that the numbers stand.
+// A line with bytes, where decoding them says that the numbers stand, and how many registers a list names.
 ghost use mathlib.Core.Path.{_≡_};
 ghost use Prim.Native.Nat.{_<_};
 ghost use lib.ListN.{length};
@@ -8,11 +8,11 @@ use crate::given;
 use crate::hex;
 use record::Part;
 
-// Bytes given, at most eight; eight bytes; refusal; offset and width of first, of dispabs, of imm_wide.
+// Bytes given, at most eight; eight bytes; refusal; offset and width of first, of dispabs, of imm_wide; registers.
 pub(crate) fn is_whole(line: &[u8]) -> bool
     ensures { λ r. ⌜ Tells r (Whole (now (line .entry))) ⌝ }
 {
-    let form = b"P# ################ # ## ## ##                  \n";
+    let form = b"P# ################ # ## ## ## #                \n";
     given::is_whole(line, form, 1)
 }
 
@@ -50,5 +50,8 @@ pub(crate) fn agrees(line: &[u8]) -> bool
     if !same_part(parts.dispabs, part_at(line, 25)) {
         return false;
     }
-    same_part(parts.imm_wide, part_at(line, 28))
+    if !same_part(parts.imm_wide, part_at(line, 28)) {
+        return false;
+    }
+    answer.inst.registers == hex::digit_at(line, 31)
 }

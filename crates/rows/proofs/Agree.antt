@@ -19,7 +19,7 @@ use Rattle.record.specs.declared.Opcode.{Opcode}
 use Rattle.record.specs.Numbers.{opcodeNo}
 use Rattle.rows.specs.Row.{Condition, named, unnamed, Row}
 use Rattle.rows.specs.Codes.{condOf}
-use Rattle.rows.specs.Rows.{known, rowsOf, document01}
+use Rattle.rows.specs.Groups.{known, rowsOf, document01}
 use Rattle.rows.specs.Fate.{fate}
 use Rattle.rows.specs.All.{everyCode, countCodes}
 use Rattle.rows.specs.Agree.{recorded, sizeFits}
@@ -128,7 +128,7 @@ module _ (a b : ℕ) (k : known a ≡ true) (l : b < 256) where
   unfolding unmarkedRight
   row-agreement f u m e = same-agrees a b row m (both-left (same a b row m) _ (rw e at (both-right (not (starred a b)) _ (unmarked-here f u))))
 
-  -- one without is among the 26, and none of these has a meaning
+  -- one without is among the 68, and none of these has a meaning
   pub unmeant : fate (row .reads) ≡ 0 → row .face .marked ≡ false → entryAt a b ≡ empty → T (listedIn unmeantCode a b)
   unfolding unmarkedRight
   unmeant f u e = rw e at (both-right (not (starred a b)) _ (unmarked-here f u))
@@ -163,7 +163,7 @@ module _ (a b : ℕ) (k : known a ≡ true) (l : b < 256) where
   refused-unmeant f e = rw e at (refused-here f)
 
 -- the lists are as long as they are said to be
-pub lists : (countCodes (listedIn exchangedCode) ≡ 52) × (countCodes (listedIn unmeantCode) ≡ 26) × (countCodes (listedIn refusedCode) ≡ 6)
+pub lists : (countCodes (listedIn exchangedCode) ≡ 52) × (countCodes (listedIn unmeantCode) ≡ 68) × (countCodes (listedIn refusedCode) ≡ 6)
 unfolding countCodes
 lists = (refl, refl, refl)
 

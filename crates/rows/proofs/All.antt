@@ -3,14 +3,14 @@
 use Prim.Native.Nat.{ℕ, _<_}
 use mathlib.Core.Path.{_≡_, refl, sym, subst}
 use mathlib.Core.Bool.{Bool, true, false}
-use mathlib.Core.List.{List, [], _∷_}
+use mathlib.Core.List.{List, [], _∷_, _++_}
 use lib.Dec.{T, eqb}
 use borrow.Author.Tests.{eqb-true}
 use Rattle.laws.specs.Range.{upto}
 use Rattle.laws.proofs.Choice.{both-left, both-right}
 use Rattle.laws.proofs.Range.{upto-at}
 use Rattle.rows.specs.All.{everyFirst, everyCode, EachFirst}
-use Rattle.rows.specs.Rows.{Group, groups, knownIn, known}
+use Rattle.rows.specs.Groups.{Group, groups, knownIn, known}
 
 module _ (P : ℕ → Type 0) where
   found : (gs : List Group) → EachFirst P gs → (a : ℕ) → knownIn gs a ≡ true → P a
@@ -25,9 +25,14 @@ module _ (P : ℕ → Type 0) where
   unfolding known
   each-first = found groups
 
-tested : (f : ℕ → Bool) (gs : List Group) → T (everyFirst f gs) → EachFirst (λ a. T (f a)) gs
+pub tested : (f : ℕ → Bool) (gs : List Group) → T (everyFirst f gs) → EachFirst (λ a. T (f a)) gs
 tested f [] t = tt
 tested f (g ∷ gs) t = (both-left (f (g .byte)) (everyFirst f gs) t, tested f gs (both-right (f (g .byte)) (everyFirst f gs) t))
+
+-- and what holds of each first byte of two lists holds of those of both
+pub joined : (P : ℕ → Type 0) (gs hs : List Group) → EachFirst P gs → EachFirst P hs → EachFirst P (gs ++ hs)
+joined P [] hs t u = u
+joined P (g ∷ gs) hs t u = (t .0, joined P gs hs (t .1) u)
 
 pub every-first : (f : ℕ → Bool) → T (everyFirst f groups) → (a : ℕ) → known a ≡ true → T (f a)
 every-first f t = each-first (λ a. T (f a)) (tested f groups t)

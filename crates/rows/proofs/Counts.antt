@@ -7,11 +7,11 @@ use lib.Dec.{T, leb, leb→le}
 use Rattle.laws.specs.Choice.{both}
 use Rattle.rows.specs.All.{everyCode, countCodes}
 use Rattle.rows.specs.Fate.{ends, markedAt, readsAt, reach}
-use Rattle.rows.specs.Rows.{known, rowsOf, document01}
+use Rattle.rows.specs.Groups.{known, rowsOf, document01}
 use Rattle.rows.proofs.All.{every-code}
 
 -- accepted; of them marked; always refused with 2; with 3; of these, judged only once bytes behind the code were read
-pub counts : (countCodes (ends 0) ≡ 2596) × (countCodes (λ a b. both (ends 0 a b) (markedAt a b)) ≡ 446) × (countCodes (ends 2) ≡ 148) × (countCodes (ends 3) ≡ 328)
+pub counts : (countCodes (ends 0) ≡ 8228) × (countCodes (λ a b. both (ends 0 a b) (markedAt a b)) ≡ 446) × (countCodes (ends 2) ≡ 148) × (countCodes (ends 3) ≡ 328)
     × (countCodes (λ a b. both (ends 3 a b) (readsAt a b)) ≡ 56)
 unfolding countCodes ends markedAt readsAt rowsOf
 counts = (refl, refl, refl, refl, refl)

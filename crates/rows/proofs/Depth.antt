@@ -15,7 +15,7 @@ use Rattle.laws.proofs.Choice.{both-left, both-right, pick-holds}
 use Rattle.rows.specs.Row.{Refusal, InvalidOpcode, InvalidOperand, refusalNo, Read, num, cond, stop, Table}
 use Rattle.rows.specs.Codes.{condOf}
 use Rattle.rows.specs.Fate.{bytesOf, reach, mostTaken}
-use Rattle.rows.specs.Rows.{known, rowsOf, document01}
+use Rattle.rows.specs.Groups.{known, rowsOf, document01}
 use Rattle.rows.specs.All.{everyCode}
 use Rattle.rows.specs.Run.{readDisp, readInto, refusal, run, runRow, begun, decodeBy, decodeRows}
 use Rattle.rows.proofs.Along.{Events, along}
@@ -34,6 +34,15 @@ module _ (most : ℕ → ℕ) where
   pub record Bounded (b m : ℕ) (x : Answer) : Type 0 where
     pub short : x .refusal ≡ 1 → b < m
     pub early : (x .refusal ≡ 0 → ⊥) → (x .refusal ≡ 1 → ⊥) → x .taken ≤ most (x .refusal)
+
+  -- so a refusal is for want of bytes, or by a test and within the bound
+  pub want-or-test : {P : Type 0} {b m : ℕ} {x : Answer} → Bounded b m x → (x .refusal ≡ 0 → ⊥) → (x .refusal ≡ 1 → b < m → P)
+      → ((x .refusal ≡ 1 → ⊥) → x .taken ≤ most (x .refusal) → P) → P
+  want-or-test {P} {x = x} limits refused want test = by (eqb (x .refusal) 1) refl
+    where
+      by : (o : Bool) → eqb (x .refusal) 1 ≡ o → P
+      by true o = let one = eqb-true _ 1 o in want one (limits .short one)
+      by false o = let other = eqb-false _ 1 o in test other (limits .early refused other)
 
   short-bounded : (b m n : ℕ) → b < m → Bounded b m (refusal 1 n)
   short-bounded b m n l = record { short = λ e. l; early = λ z o. absurd (o refl) }
@@ -104,11 +113,8 @@ module _ (t : Table) (passes : Passes t) (bs : List ℕ) (second : getD bs 1 0 <
   limits = bounded mostTaken t 5 (omega arith) passes bs second
 
   short-or-early : {P : Type 0} → (x .refusal ≡ 1 → x .taken ≡ length bs → length bs < 7 → P) → (x .taken ≤ mostTaken (x .refusal) → mostTaken (x .refusal) ≤ 5 → P) → P
-  short-or-early {P} short early = by (eqb (x .refusal) 1) refl
-    where
-      by : (o : Bool) → eqb (x .refusal) 1 ≡ o → P
-      by true o = let one = eqb-true _ 1 o in short one (counted t bs .whole one) (limits .short one)
-      by false o = let other = eqb-false _ 1 o in early (limits .early refused other) (above-one _ refused other)
+  short-or-early short early =
+      want-or-test mostTaken limits refused (λ one l. short one (counted t bs .whole one) l) (λ other l. early l (above-one _ refused other))
 
   -- a refusal takes at most as many bytes as its number says
   pub at-most-taken : x .taken ≤ mostTaken (x .refusal)

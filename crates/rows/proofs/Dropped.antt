@@ -12,7 +12,7 @@ use Rattle.rows.specs.All.{countCodes}
 use Rattle.rows.specs.Bytes.{Bytes}
 use Rattle.rows.specs.Fate.{ends, markedAt}
 use Rattle.rows.specs.Row.{Table}
-use Rattle.rows.specs.Rows.{rowsOf, document01}
+use Rattle.rows.specs.Groups.{rowsOf, document01}
 use Rattle.rows.specs.Run.{decodeBy}
 use Rattle.rows.specs.Spans.{Source, code, read, twenty, spansOf, droppedIn}
 use Rattle.rows.proofs.Bytes.{at-bytes}

@@ -16,7 +16,7 @@ use Rattle.record.specs.declared.fields.Field.{Field}
 use Rattle.record.specs.Parts.{partOf, Within}
 use Rattle.rows.specs.Bytes.{Bytes}
 use Rattle.rows.specs.Parts.{DifferIn, holding}
-use Rattle.rows.specs.Rows.{document01}
+use Rattle.rows.specs.Groups.{document01}
 use Rattle.rows.specs.Run.{bytes, decodeRows}
 use Rattle.rows.specs.Spans.{numberIn}
 use Rattle.rows.proofs.Bytes.{bytes-alike, drop-bytes, put-bytes}

@@ -10,7 +10,7 @@ use Rattle.laws.specs.Choice.{pick}
 use Rattle.laws.proofs.Choice.{pick-holds}
 use Rattle.rows.specs.Row.{Table}
 use Rattle.rows.specs.Fate.{reach}
-use Rattle.rows.specs.Rows.{document01}
+use Rattle.rows.specs.Groups.{document01}
 use Rattle.rows.specs.Run.{refusal, runRow, begun, decodeBy, decodeRows}
 use Rattle.rows.proofs.Along.{Events, along}
 use Rattle.rows.proofs.Taken.{row-counted}

@@ -17,6 +17,8 @@ pub mod Laid
 pub mod Plain
 pub mod Manual
 pub mod Dropped
+pub mod Named
+pub mod Third
 pub mod Parts
 pub mod Unchanged
 pub mod Patch

@@ -25,7 +25,7 @@ use Rattle.manual.specs.Entries.{entryAt}
 use Rattle.rows.specs.Bytes.{Bytes}
 use Rattle.rows.specs.Row.{named, Row}
 use Rattle.rows.specs.Codes.{condOf}
-use Rattle.rows.specs.Rows.{known, rowsOf, document01}
+use Rattle.rows.specs.Groups.{known, rowsOf, document01}
 use Rattle.rows.specs.Run.{decodeRows}
 use Rattle.rows.specs.All.{everyCode}
 use Rattle.rows.specs.Spans.{Source, code, read, twenty, Naming, byRow, byByte, spansOf, wideIn, namedIn, MadeBy}

@@ -17,7 +17,7 @@ use Rattle.record.specs.Parts.{noParts, partOf, Inside, Within}
 use Rattle.record.specs.Same.{valueOf}
 use Rattle.rows.specs.Bytes.{Bytes}
 use Rattle.rows.specs.Row.{Row, Table}
-use Rattle.rows.specs.Rows.{document01}
+use Rattle.rows.specs.Groups.{document01}
 use Rattle.rows.specs.Run.{decodeBy, decodeRows}
 use Rattle.rows.specs.Spans.{Spans, spansOf, numberIn, partIn, partsIn, MadeBy}
 use Rattle.rows.specs.Parts.{Laid, Sized, keptOf, ReadByKind, Covered, by-part, by-condition, Placed}

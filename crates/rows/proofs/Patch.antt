@@ -89,8 +89,8 @@ module _ (t : Table) (f : Field) (a b : ℕ) (bs cs : List ℕ) (z : decodeBy t 
   is : MadeBy w (a ∷ b ∷ cs) s
   is = accepted t a b cs (still .refusal ∙ z) .made
 
-  -- names, length, mark and parts
-  named-alike : s ≡ numbered (s .«imm_wide») (s .dispabs) (s .first) (s .dropped) (r .parts) r
+  -- names, length, mark, parts and how many registers are named
+  named-alike : s ≡ numbered (s .«imm_wide») (s .dispabs) (s .first) (s .dropped) (r .parts) (r .registers) r
   named-alike i = record {
     «imm_wide» = s .«imm_wide»;
     dispabs = s .dispabs;
@@ -105,6 +105,7 @@ module _ (t : Table) (f : Field) (a b : ℕ) (bs cs : List ℕ) (z : decodeBy t 
     marked = (is .marked ∙ sym (was .made .marked)) i;
     dropped = s .dropped;
     parts = (is .parts ∙ sym (was .made .parts)) i;
+    registers = (is .registers ∙ sym (was .made .registers)) i;
   }
 
   -- the number of another field
@@ -151,17 +152,17 @@ module _ (t : Table) (f : Field) (a b : ℕ) (bs cs : List ℕ) (z : decodeBy t 
         let m : 0 < r .parts .«imm_wide» .width = rw e at l in
         let x = short-same (λ q. differs tt (sym e ∙ q)) in
         let y = early-same (λ q. differs tt (sym e ∙ q)) in
-        named-alike ∙ (λ i. numbered (wide-now m i) (x i) (y i) (dropped-now i) (r .parts) r)
+        named-alike ∙ (λ i. numbered (wide-now m i) (x i) (y i) (dropped-now i) (r .parts) (r .registers) r)
     held short e =
         let x = wide-same (λ q. differs tt (sym e ∙ q)) in
         let y = early-same (λ q. differs tt (sym e ∙ q)) in
         let u = dropped-same (λ q. differs tt (sym e ∙ q)) in
-        named-alike ∙ (λ i. numbered (x i) (short-now i) (y i) (u i) (r .parts) r)
+        named-alike ∙ (λ i. numbered (x i) (short-now i) (y i) (u i) (r .parts) (r .registers) r)
     held early e =
         let x = wide-same (λ q. differs tt (sym e ∙ q)) in
         let y = short-same (λ q. differs tt (sym e ∙ q)) in
         let u = dropped-same (λ q. differs tt (sym e ∙ q)) in
-        named-alike ∙ (λ i. numbered (x i) (y i) (early-now i) (u i) (r .parts) r)
+        named-alike ∙ (λ i. numbered (x i) (y i) (early-now i) (u i) (r .parts) (r .registers) r)
 
     pub changed : decodeBy t (a ∷ b ∷ cs) ≡ answer (holding f (numberIn (a ∷ b ∷ cs) (partOf f (r .parts))) r) (decodeBy t (a ∷ b ∷ bs) .taken)
     changed i = record { inst = held f refl i; taken = still .taken i; refusal = (still .refusal ∙ z) i }

@@ -17,7 +17,7 @@ use Rattle.record.specs.declared.Part.{Part}
 use Rattle.rows.specs.All.{everyCode}
 use Rattle.rows.specs.Bytes.{Bytes}
 use Rattle.rows.specs.Parts.{Sized, keptBy, keptOf, droppedOf}
-use Rattle.rows.specs.Rows.{known, rowsOf, document01}
+use Rattle.rows.specs.Groups.{known, rowsOf, document01}
 use Rattle.rows.specs.Spans.{Source, code, read, twenty, Spans, spansOf, numberIn, wideIn, droppedIn, partIn}
 use Rattle.rows.proofs.All.{every-code}
 use Rattle.rows.proofs.Bytes.{bytes-small}

@@ -95,6 +95,7 @@ module _ (bs : List ℕ) (number : ℕ) (o : Opcode) where
     marked = d .marked;
     dropped = d .dropped;
     parts = d .parts;
+    registers = d .registers;
   }
 
   cond-goes : (rs : List Read) → Goes rs → Goes (cond ∷ rs)
@@ -137,6 +138,7 @@ module _ (bs : List ℕ) (number : ℕ) (o : Opcode) where
       marked = refl;
       dropped = h .dropped;
       parts = h .parts;
+      registers = refl;
     },
     refl,
   )

@@ -16,7 +16,7 @@ use Rattle.record.specs.declared.Got.{Got}
 use Rattle.record.specs.declared.Got.the-variants.{On, Short}
 use Rattle.rows.specs.Row.{Num, Refusal, refusalNo, Read, num, stop, cond, named, unnamed, Face}
 use Rattle.rows.specs.Codes.{condOf}
-use Rattle.rows.specs.Run.{reading, andThen, accepted, refusal, renamed, past, run}
+use Rattle.rows.specs.Run.{reading, andThen, acceptedBy, accepted, refusal, renamed, past, run}
 
 module _ (k : Num) (bs : List ℕ) (f : Face) (s : Seen) {g : Got} (h : g ≡ reading k bs s) {x : Answer} (rs : List Read) where
   -- a read that finds too little ends the row
@@ -33,14 +33,12 @@ pub stops : (e : Refusal) (rs : List Read) (bs : List ℕ) (f : Face) (s : Seen)
 unfolding run
 stops e rs bs f s h = h
 
--- the record is made once, of the row's names
-pub done : (bs : List ℕ) (f : Face) (s : Seen) {x : Answer} {o : Opcode} {z : Size} {w : Width} {a b : Operand} {m : Bool}
+-- the record is made once, of the row's names; this row names no list of registers
+pub done : (bs : List ℕ) {f : Face} → f .registers ≡ 0 → (s : Seen) {x : Answer} {o : Opcode} {z : Size} {w : Width} {a b : Operand} {m : Bool}
     → x ≡ accepted o z w a b m s → o ≡ f .opcode → z ≡ f .size → w ≡ f .width → a ≡ f .op0 → b ≡ f .op1 → m ≡ f .marked → x ≡ run [] bs f s
 unfolding run
-done bs f s {x} {o} {z} {w} {a} {b} {m} e ho hz hw ha hb hm =
-    e ∙ ap (λ y. accepted y z w a b m s) ho ∙ ap (λ y. accepted (f .opcode) y w a b m s) hz ∙ ap (λ y. accepted (f .opcode) (f .size) y a b m s) hw
-    ∙ ap (λ y. accepted (f .opcode) (f .size) (f .width) y b m s) ha ∙ ap (λ y. accepted (f .opcode) (f .size) (f .width) (f .op0) y m s) hb
-    ∙ ap (λ y. accepted (f .opcode) (f .size) (f .width) (f .op0) (f .op1) y s) hm
+done bs {f} none s e ho hz hw ha hb hm =
+    e ∙ (λ i. acceptedBy (record { opcode = ho i; size = hz i; width = hw i; op0 = ha i; op1 = hb i; marked = hm i; registers = sym none i }) s)
 
 -- the condition byte
 module _ (bs : List ℕ) (f : Face) (s : Seen) {x : Answer} (rs : List Read) where

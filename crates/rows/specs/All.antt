@@ -4,7 +4,7 @@ use mathlib.Core.Bool.{Bool, true}
 use mathlib.Core.List.{List, [], _∷_}
 use Rattle.laws.specs.Choice.{both}
 use Rattle.laws.specs.Range.{upto, howMany}
-use Rattle.rows.specs.Rows.{Group, groups}
+use Rattle.rows.specs.Groups.{Group, groups}
 
 abbrev pub everyFirst : (ℕ → Bool) → List Group → Bool
 everyFirst f [] = true

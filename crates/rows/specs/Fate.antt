@@ -1,11 +1,11 @@
 -- What a row comes to, whatever bytes stand behind its code.
 use Prim.Native.Nat.{ℕ, _+_}
-use mathlib.Core.Bool.{Bool}
+use mathlib.Core.Bool.{Bool, true, false}
 use mathlib.Core.List.{List, [], _∷_}
 use lib.Dec.{ltb, eqb}
 use lib.ListN.{getD}
 use Rattle.rows.specs.Row.{Num, disp, imm, imm20, refusalNo, Read, num, cond, stop}
-use Rattle.rows.specs.Rows.{document01}
+use Rattle.rows.specs.Groups.{document01}
 
 -- 0 for a row that accepts, else its refusal
 abbrev pub fate : List Read → ℕ
@@ -26,7 +26,14 @@ reach (num k ∷ rs) = bytesOf k + reach rs
 reach (cond ∷ rs) = 1 + reach rs
 reach (stop e ∷ rs) = 0
 
--- the most bytes that a refusal takes, by its number: 1 to 4
+-- whatever bytes stand behind its code, it does not refuse: no test, and no condition byte
+abbrev pub smooth : List Read → Bool
+smooth [] = true
+smooth (num k ∷ rs) = smooth rs
+smooth (cond ∷ rs) = false
+smooth (stop e ∷ rs) = false
+
+-- request A13: the most bytes that a refusal takes, by its number: 1 to 4
 abbrev pub mostTaken : ℕ → ℕ
 mostTaken e = getD (0 ∷ 6 ∷ 5 ∷ 4 ∷ 1 ∷ []) e 0
 

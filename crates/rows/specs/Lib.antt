@@ -2,6 +2,9 @@ pub mod Bytes
 pub mod Row
 pub mod Codes
 pub mod Rows
+pub mod Pairs
+pub mod RegisterList
+pub mod Groups
 pub mod Run
 pub mod Fate
 pub mod Sizes

@@ -37,11 +37,13 @@ listedIn f a b = f a (b / 16) (b % 16)
 abbrev pub starred : ℕ → ℕ → Bool
 starred a b = either (listedIn starredRow a b) (either (starredCode a b) (listedIn exchangedCode a b))
 
--- accepted, unmarked, and without a meaning: 26 codes
+-- accepted, unmarked, and without a meaning: 68 codes. Of request A7 A0 or A1 on both sides at width B, and the empty lists
 abbrev pub unmeantCode : ℕ → ℕ → ℕ → Bool
 unmeantCode a h n =
     either (both (eqb a 0x7C) (both (ltb (h % 8) 4) (oneOf (0 ∷ 4 ∷ 5 ∷ []) n)))
-    (both (eqb a 0x78) (both (oneOf (4 ∷ 5 ∷ []) h) (eqb n 4)))
+    (either (both (eqb a 0x78) (both (oneOf (4 ∷ 5 ∷ []) h) (eqb n 4)))
+    (either (both (oneOf (0x72 ∷ 0x80 ∷ 0x88 ∷ 0x90 ∷ 0x98 ∷ 0xA0 ∷ 0xA8 ∷ 0xB0 ∷ 0xB8 ∷ 0xC0 ∷ []) a) (both (oneOf (4 ∷ 5 ∷ []) h) (oneOf (4 ∷ 5 ∷ []) n)))
+    (both (oneOf (0xEC ∷ 0xED ∷ []) a) (both (eqb h 0) (eqb n 0)))))
 
 -- refused, and with a meaning: six codes
 abbrev pub refusedCode : ℕ → ℕ → ℕ → Bool

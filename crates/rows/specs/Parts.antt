@@ -70,6 +70,6 @@ pub record DifferIn (p : Part) (bs cs : List ℕ) : Type 0 where
 -- a record as it was, but that v was read into one field in place of what this held
 abbrev pub holding : Field → ℕ → Record → Record
 holding nowhere v r = r
-holding wide v r = numbered (keptOf (r .parts .«imm_wide» .width) v) (r .dispabs) (r .first) (droppedOf (r .parts .«imm_wide» .width) v) (r .parts) r
-holding short v r = numbered (r .«imm_wide») v (r .first) (r .dropped) (r .parts) r
-holding early v r = numbered (r .«imm_wide») (r .dispabs) v (r .dropped) (r .parts) r
+holding wide v r = numbered (keptOf (r .parts .«imm_wide» .width) v) (r .dispabs) (r .first) (droppedOf (r .parts .«imm_wide» .width) v) (r .parts) (r .registers) r
+holding short v r = numbered (r .«imm_wide») v (r .first) (r .dropped) (r .parts) (r .registers) r
+holding early v r = numbered (r .«imm_wide») (r .dispabs) v (r .dropped) (r .parts) (r .registers) r

@@ -37,6 +37,11 @@ pub record Face : Type 0 where
   pub op0 : Operand
   pub op1 : Operand
   pub marked : Bool
+  pub registers : ℕ  -- request A7: how many registers its list names
+
+-- of a row that names no list of registers
+abbrev pub face : Opcode → Size → Width → Operand → Operand → Bool → Face
+face o z w a b m = record { opcode = o; size = z; width = w; op0 = a; op1 = b; marked = m; registers = 0 }
 
 pub record Row : Type 0 where
   pub face : Face

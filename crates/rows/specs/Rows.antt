@@ -17,7 +17,7 @@ use Rattle.record.specs.declared.Width.the-variants.{None, B, W}
 use Rattle.record.specs.declared.Operand.{Operand}
 use Rattle.record.specs.declared.Operand.the-variants.{Nothing, Imm4, Imm8, Imm16, R0L, R0H, R1H, R0, R1, R2R0, R3R1, «Disp8_SP», «Disp20_A0», «Deref_A1A0», Abs16, Abs20, Disp8, SP}
 use Rattle.laws.specs.Choice.{pick}
-use Rattle.rows.specs.Row.{disp, imm, Refusal, InvalidOpcode, InvalidOperand, Read, num, cond, stop, Row, Table}
+use Rattle.rows.specs.Row.{disp, imm, Refusal, InvalidOpcode, InvalidOperand, Read, num, cond, stop, face, Row}
 use Rattle.rows.specs.Codes.{noPair, numJ, nameG, nameT, nameP, nameJ, nameK, nameI, G, Bit, I, L, J, K, refuse}
 
 -- the size that a width gives an opcode that carries one
@@ -28,7 +28,7 @@ sizeOf W = size.W
 
 unfoldable pub row : Opcode → Size → Width → Operand → Operand → ℕ → List Read → Row
 row o s w a b v rs = record {
-  face = record { opcode = o; size = s; width = w; op0 = a; op1 = b; marked = false };
+  face = face o s w a b false;
   number = v;
   reads = rs;
 }
@@ -51,6 +51,7 @@ starIf m r = record {
     op0 = r .face .op0;
     op1 = r .face .op1;
     marked = m;
+    registers = r .face .registers;
   };
   number = r .number;
   reads = r .reads;
@@ -359,45 +360,3 @@ unfoldable pub rowEB : ℕ → ℕ → Row
 rowEB h n =
     pick (ltb h 8) (rowEBlow h n)
     (pick (ltb h 12) (longShift h Imm4 n) (row INT size.None None Imm8 Nothing ((16 * h + n) % 64) []))
-
--- a first byte and its rows
-pub record Group : Type 0 where
-  pub byte : ℕ
-  pub rows : ℕ → ℕ → Row
-
-abbrev group : ℕ → (ℕ → ℕ → Row) → Group
-group a r = record { byte = a; rows = r }
-
--- the first bytes (to unfold this is to unfold all rows; of the functions only that which is asked for is computed)
-unfoldable pub groups : List Group
-unfolding noPair numJ row row74 row76 row78 row7A row7B rowE row7C row7CF row7D row7DC row7DD row7DF row7E rowEB rowEBlow
-groups =
-    group 0x74 (row74 B) ∷ group 0x75 (row74 W)
-    ∷ group 0x76 (row76 B) ∷ group 0x77 (row76 W)
-    ∷ group 0x78 (row78 B) ∷ group 0x79 (row78 W)
-    ∷ group 0x7A row7A
-    ∷ group 0x7B row7B
-    ∷ group 0x7C row7C
-    ∷ group 0x7D row7D
-    ∷ group 0x7E row7E
-    ∷ group 0xEB rowEB
-    ∷ []
-
-abbrev pub knownIn : List Group → ℕ → Bool
-knownIn [] a = false
-knownIn (g ∷ gs) a = pick (eqb a (g .byte)) true (knownIn gs a)
-
-abbrev pub rowsIn : List Group → ℕ → ℕ → ℕ → Row
-rowsIn [] a = λ h n. refused InvalidOpcode
-rowsIn (g ∷ gs) a = pick (eqb a (g .byte)) (g .rows) (rowsIn gs a)
-
-unfoldable pub known : ℕ → Bool
-unfolding groups
-known = knownIn groups
-
-unfoldable pub rowsOf : ℕ → ℕ → ℕ → Row
-unfolding groups
-rowsOf = rowsIn groups
-
-abbrev pub document01 : Table
-document01 = record { known = known; rowAt = λ a b. rowsOf a (b / 16) (b % 16) }

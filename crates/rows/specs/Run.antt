@@ -17,9 +17,9 @@ use Rattle.record.specs.declared.Parts.{Parts}
 use Rattle.record.specs.declared.Seen.{Seen}
 use Rattle.record.specs.declared.Got.{Got}
 use Rattle.record.specs.declared.Got.the-variants.{On, Short}
-use Rattle.rows.specs.Row.{Num, disp, imm, imm20, refusalNo, Read, num, cond, stop, Condition, named, unnamed, Face, Row, Table}
+use Rattle.rows.specs.Row.{Num, disp, imm, imm20, refusalNo, Read, num, cond, stop, Condition, named, unnamed, Face, face, Row, Table}
 use Rattle.rows.specs.Codes.{condOf}
-use Rattle.rows.specs.Rows.{document01}
+use Rattle.rows.specs.Groups.{document01}
 
 -- n bytes from a place, low first
 abbrev pub bytes : List ℕ → ℕ → ℕ → ℕ
@@ -71,26 +71,31 @@ reading (imm n) = readInto n (inFull n)
 reading imm20 = readInto 3 inTwenty
 
 -- 0: the record, whose length is the bytes taken
-abbrev pub accepted : Opcode → Size → Width → Operand → Operand → Bool → Seen → Answer
-accepted o z w a b m s = record {
+abbrev pub acceptedBy : Face → Seen → Answer
+acceptedBy f s = record {
   inst = record {
     «imm_wide» = s .«imm_wide»;
     dispabs = s .dispabs;
     first = s .first;
     length = s .taken;
-    opcode = o;
-    size = z;
-    width = w;
-    op0 = a;
-    op1 = b;
+    opcode = f .opcode;
+    size = f .size;
+    width = f .width;
+    op0 = f .op0;
+    op1 = f .op1;
     op2 = Nothing;
-    marked = m;
+    marked = f .marked;
     dropped = s .dropped;
     parts = s .parts;
+    registers = f .registers;
   };
   taken = s .taken;
   refusal = 0;
 }
+
+-- of a row that names no list of registers
+abbrev pub accepted : Opcode → Size → Width → Operand → Operand → Bool → Seen → Answer
+accepted o z w a b m = acceptedBy (face o z w a b m)
 
 -- a refusal: its number, the bytes taken and the blank record
 abbrev pub refusal : ℕ → ℕ → Answer
@@ -105,7 +110,7 @@ abbrev pub past : Seen → Seen
 past s = record { «imm_wide» = s .«imm_wide»; dispabs = s .dispabs; first = s .first; dropped = s .dropped; parts = s .parts; taken = s .taken + 1 }
 
 abbrev pub renamed : Opcode → Face → Face
-renamed o f = record { opcode = o; size = f .size; width = f .width; op0 = f .op0; op1 = f .op1; marked = f .marked }
+renamed o f = record { opcode = o; size = f .size; width = f .width; op0 = f .op0; op1 = f .op1; marked = f .marked; registers = f .registers }
 
 abbrev pub judged : Condition → Seen → (Opcode → Answer) → Answer
 judged (named o) s k = k o
@@ -113,7 +118,7 @@ judged unnamed s k = refusal 2 (s .taken + 1)
 
 -- the reads of a row, one after the other; the earliest event answers
 unfoldable pub run : List Read → List ℕ → Face → Seen → Answer
-run [] bs f s = accepted (f .opcode) (f .size) (f .width) (f .op0) (f .op1) (f .marked) s
+run [] bs f s = acceptedBy f s
 run (num k ∷ rs) bs f s = andThen bs (reading k bs s) (run rs bs f)
 run (cond ∷ rs) bs f s =
     pick (ltb (s .taken) (length bs)) (judged (condOf (getD bs (s .taken) 0)) s (λ o. run rs bs (renamed o f) (past s))) (refusal 1 (length bs))

@@ -104,6 +104,7 @@ pub record Made (bs : List ℕ) (number : ℕ) (o : Opcode) (f : Face) (z : Span
   pub marked : r .marked ≡ f .marked
   pub dropped : r .dropped ≡ droppedIn bs (z .wide)
   pub parts : r .parts ≡ partsIn z
+  pub registers : r .registers ≡ f .registers
 
 -- by a row
 abbrev pub MadeBy : Row → List ℕ → Record → Type 0

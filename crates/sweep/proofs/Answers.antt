@@ -10,7 +10,7 @@ use lib.ListN.{length}
 use borrow.Author.Tests.{le-ltb}
 use Rattle.laws.specs.Choice.{pick}
 use Rattle.rows.specs.Bytes.{Bytes}
-use Rattle.rows.specs.Rows.{document01}
+use Rattle.rows.specs.Groups.{document01}
 use Rattle.rows.specs.Run.{decodeRows}
 use Rattle.rows.proofs.Depth.{codes-pass}
 use Rattle.rows.proofs.Late.{firsts-spaced}

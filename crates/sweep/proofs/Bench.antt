@@ -4,7 +4,7 @@ use mathlib.Core.Path.{_≡_, refl}
 use mathlib.Core.List.{List, [], _∷_}
 use lib.ListN.{replicate}
 use Prim.Native.Nat.{ℕ, _+_}
-use Rattle.rows.specs.Rows.{known, rowsOf}
+use Rattle.rows.specs.Groups.{known, rowsOf}
 use Rattle.rows.specs.Codes.{condOf}
 use Rattle.rows.specs.Run.{decodeBy, runRow, run, readDisp, readInto}
 use Rattle.sweep.specs.declared.Rule.the-variants.{GoOn, Stop}

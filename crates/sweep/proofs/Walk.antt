@@ -11,7 +11,7 @@ use lib.ListN.{length, drop, length-drop}
 use borrow.Author.Tests.{leb-true, leb-false, eqb-true, eqb-false, le-leb}
 use Rattle.record.specs.declared.Answer.{Answer}
 use Rattle.rows.specs.Row.{Table}
-use Rattle.rows.specs.Rows.{document01}
+use Rattle.rows.specs.Groups.{document01}
 use Rattle.rows.specs.Run.{decodeBy, decodeRows}
 use Rattle.rows.proofs.Taken.{counted}
 use Rattle.rows.proofs.Length.{at-least}

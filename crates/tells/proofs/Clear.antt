@@ -13,7 +13,7 @@ use Rattle.record.specs.declared.Key.{Key}
 use Rattle.record.specs.declared.Record.{Record}
 use Rattle.record.specs.Same.{key}
 use Rattle.rows.specs.Row.{Row}
-use Rattle.rows.specs.Rows.{document01}
+use Rattle.rows.specs.Groups.{document01}
 use Rattle.rows.specs.Run.{begun, refusal, runRow, decodeBy, decodeRows}
 use Rattle.rows.proofs.Spans.{Accepted, accepted}
 use Rattle.rows.proofs.Taken.{counted}

@@ -11,7 +11,7 @@ use Rattle.laws.specs.Choice.{pick, both}
 use Rattle.laws.proofs.Agree.{listed, agree}
 use Rattle.record.specs.Same.{fieldOf}
 use Rattle.rows.specs.Codes.{condOf}
-use Rattle.rows.specs.Rows.{Group, groups, known, rowsOf, document01}
+use Rattle.rows.specs.Groups.{Group, groups, known, rowsOf, document01}
 use Rattle.rows.specs.Lists.{oneOf}
 use Rattle.rows.specs.All.{everyCode}
 use Rattle.rows.proofs.All.{every-code}

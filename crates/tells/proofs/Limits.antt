@@ -18,7 +18,7 @@ use Rattle.record.specs.Same.{sameName, among, fieldOf, field0, field1, valueOf
 use Rattle.rows.specs.All.{everyCode}
 use Rattle.rows.specs.Bytes.{Bytes}
 use Rattle.rows.specs.Row.{Face, Row}
-use Rattle.rows.specs.Rows.{known, rowsOf, document01}
+use Rattle.rows.specs.Groups.{known, rowsOf, document01}
 use Rattle.rows.specs.Run.{twentyBits}
 use Rattle.rows.specs.Spans.{Source, code, read, twenty, Spans, spansOf, wideIn, Made, MadeBy}
 use Rattle.rows.proofs.All.{every-code}

@@ -18,7 +18,7 @@ use Rattle.record.specs.Numbers.{opcodeNo, sizeNo, widthNo, operandNo}
 use Rattle.record.proofs.Apart.{opcodes-apart, sizes-apart, widths-apart, operands-apart}
 use Rattle.rows.specs.Row.{Condition, named, unnamed, Row}
 use Rattle.rows.specs.Codes.{condOf}
-use Rattle.rows.specs.Rows.{known, rowsOf, document01}
+use Rattle.rows.specs.Groups.{known, rowsOf, document01}
 use Rattle.rows.specs.All.{everyCode}
 use Rattle.rows.proofs.All.{every-code}
 use Rattle.encode_rules.specs.steps.Search.{disps, imms, conds, live}

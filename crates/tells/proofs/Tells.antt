@@ -11,7 +11,7 @@ use Rattle.record.specs.declared.Operand.the-variants.{Nothing}
 use Rattle.record.specs.Numbers.{sizeNo, widthNo, operandNo}
 use Rattle.record.specs.Same.{sameName, among, baseOf, fieldOf, field0, field1, valueOf, key}
 use Rattle.record.specs.Signed.{numberOf}
-use Rattle.rows.specs.Rows.{document01}
+use Rattle.rows.specs.Groups.{document01}
 use Rattle.rows.specs.Run.{decodeRows}
 use Rattle.rows.proofs.Length.{two-to-seven}
 use Rattle.rows.proofs.Taken.{counted}

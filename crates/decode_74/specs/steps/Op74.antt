@@ -13,7 +13,7 @@ use Rattle.record.specs.declared.Width.{Width}
 use Rattle.record.specs.declared.Operand.{Operand}
 use Rattle.record.specs.declared.Operand.the-variants.{Nothing, Abs20, «Disp20_A0», «Deref_A1A0», «Disp8_SP», R1H}
 use Rattle.readers.specs.steps.Set.{holds}
-use Rattle.rows.specs.Row.{Num, disp, imm, imm20, Read, num, Row}
+use Rattle.rows.specs.Row.{Num, disp, imm, imm20, Read, num, face, Row}
 use Rattle.rows.specs.Codes.{nameG, nameI, sizeI, G, refuse}
 use Rattle.rows.specs.Rows.{sizeOf, badShift}
 
@@ -54,14 +54,7 @@ stop74 w h n = pick (shift74 h) (badShift w n) false
 
 unfoldable pub table74 : Width → ℕ → ℕ → Row
 table74 w h n = record {
-  face = record {
-    opcode = opcode74 h;
-    size = size74 w h;
-    width = w;
-    op0 = pick (first74 h) (nameG w n) (other74 w h);
-    op1 = pick (first74 h) (other74 w h) (nameG w n);
-    marked = eqb h 3;
-  };
+  face = face (opcode74 h) (size74 w h) w (pick (first74 h) (nameG w n) (other74 w h)) (pick (first74 h) (other74 w h) (nameG w n)) (eqb h 3);
   number = 0;
   reads = refuse (stop74 w h n) (G n ∷ readsOf (rest74 w h));
 }

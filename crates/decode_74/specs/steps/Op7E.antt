@@ -5,7 +5,7 @@ use Rattle.record.specs.declared.Size.the-variants as size
 use Rattle.record.specs.declared.Width.the-variants.{None}
 use Rattle.record.specs.declared.Operand.{Operand}
 use Rattle.record.specs.declared.Operand.the-variants.{Nothing}
-use Rattle.rows.specs.Row.{Face}
+use Rattle.rows.specs.Row.{Face, face}
 
 abbrev pub bitFace : Opcode → Operand → Face
-bitFace o a = record { opcode = o; size = size.None; width = None; op0 = a; op1 = Nothing; marked = false }
+bitFace o a = face o size.None None a Nothing false

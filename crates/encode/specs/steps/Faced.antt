@@ -4,12 +4,12 @@ use mathlib.Core.Bool.{false}
 use lib.Dec.{eqb}
 use Rattle.laws.specs.Choice.{pick, both}
 use Rattle.record.specs.declared.Opcode.the-variants.{NOP}
-use Rattle.rows.specs.Row.{Face}
+use Rattle.rows.specs.Row.{Face, face}
 use Rattle.encode_choice.specs.declared.Asked.{Asked}
 
 -- its names; what stands behind a code does not depend on the opcode
 abbrev pub faceBy : Asked → Face
-faceBy q = record { opcode = NOP; size = q .size; width = q .width; op0 = q .op0; op1 = q .op1; marked = false }
+faceBy q = face NOP (q .size) (q .width) (q .op0) (q .op1) false
 
 -- 7E 2n reads a condition, no other code does
 abbrev pub conditions : ℕ → ℕ → ℕ

@@ -7,7 +7,7 @@ use lib.Dec.{ltb, eqb}
 use Rattle.laws.specs.Choice.{pick, both, either}
 use Rattle.record.specs.declared.Key.{Key}
 use Rattle.record.specs.declared.Operand.{Operand}
-use Rattle.record.specs.declared.Operand.the-variants.{Imm4, Imm8, Imm16, Abs16, Abs20, Disp8, «Disp8_A0», «Disp8_A1», «Disp8_SB», «Disp8_FB», «Disp8_SP»}
+use Rattle.record.specs.declared.Operand.the-variants.{Imm4, Imm8, Imm16, RegList, Abs16, Abs20, Disp8, «Disp8_A0», «Disp8_A1», «Disp8_SB», «Disp8_FB», «Disp8_SP»}
 use Rattle.record.specs.declared.Operand.the-variants.{«Disp16_A0», «Disp16_A1», «Disp16_SB», «Disp20_A0», «Disp20_A1»}
 use Rattle.record.specs.declared.Operand.the-variants.{«Bit_R0», «Bit_R1», «Bit_R2», «Bit_R3», «Bit_A0», «Bit_A1», «Bit_Abs16»}
 use Rattle.record.specs.declared.Operand.the-variants.{«Bit_Disp8_A0», «Bit_Disp8_A1», «Bit_Disp8_SB», «Bit_Disp8_FB», «Bit_Disp16_A0», «Bit_Disp16_A1», «Bit_Disp16_SB»}
@@ -41,9 +41,9 @@ limitBy (suc zero) = 256
 limitBy (suc (suc zero)) = 65536
 limitBy (suc (suc (suc n))) = twentyBits
 
--- Imm4 is part of a code
+-- Imm4 and RegList are part of a code
 unfoldable pub limitOf : Operand → ℕ
-limitOf o = pick (sameName o Imm4) 16 (limitBy (countOf o))
+limitOf o = pick (sameName o Imm4) 16 (pick (sameName o RegList) 256 (limitBy (countOf o)))
 
 -- both in one number: 32 for each byte, and how many bits the number may have
 abbrev pub sizeBy : ℕ → ℕ
@@ -53,7 +53,7 @@ sizeBy (suc (suc zero)) = 2 * 32 + 16
 sizeBy (suc (suc (suc n))) = 3 * 32 + 20
 
 unfoldable pub sizeOf : Operand → ℕ
-sizeOf o = pick (sameName o Imm4) 4 (sizeBy (countOf o))
+sizeOf o = pick (sameName o Imm4) 4 (pick (sameName o RegList) 8 (sizeBy (countOf o)))
 
 -- an immediate, an address of 20 bits and Disp8_SP are read behind the other operand
 unfoldable pub turns : Operand → Bool

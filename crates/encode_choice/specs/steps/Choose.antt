@@ -22,7 +22,7 @@ use Rattle.record.specs.declared.fields.Field.{Field}
 use Rattle.record.specs.declared.fields.Field.the-variants.{Nowhere as nowhere, Wide as wide, Short as short, Early as early}
 use Rattle.record.specs.Same.{sameName, fieldOf, key}
 use Rattle.rows.specs.Codes.{byteNames, wordNames, bitNames, pairNames, controlNames}
-use Rattle.rows.specs.Rows.{document01}
+use Rattle.rows.specs.Groups.{document01}
 use Rattle.encode_choice.specs.declared.Asked.{Asked}
 use Rattle.encode_rules.specs.Says.{Found}
 use Rattle.encode_rules.specs.steps.Direct.{Choice, code, nothing, taken}
@@ -92,6 +92,20 @@ binary f h q = general f h (q .width) (q .op1)
 abbrev pub twice : ℕ → Asked → Choice
 twice f q = general f (codeOf (q .op0)) (q .width) (q .op1)
 
+-- an immediate as operand 0, or another
+abbrev pub onField : Field → Choice → Choice → Choice
+onField wide x y = x
+onField nowhere x y = y
+onField short x y = y
+onField early x y = y
+
+abbrev pub orImm : Choice → Choice → Asked → Choice
+orImm x y q = onField (fieldOf (q .op0)) x y
+
+-- an immediate form, by its even first byte and h, and a form of two operands, by its even first byte
+abbrev pub arithmetic : ℕ → ℕ → ℕ → Asked → Choice
+arithmetic a h f q = orImm (binary a h q) (twice f q) q
+
 -- 7E
 abbrev pub bit : ℕ → Asked → Choice
 bit h q = code 0x7E (16 * h + codeOf (q .op0))
@@ -104,16 +118,6 @@ onWidth None x y = y
 
 abbrev pub condition : ℕ → Asked → Choice
 condition n q = onWidth (q .width) (code 0x7D (0xD0 + n)) (bit 2 q)
-
--- an immediate as operand 0, or another
-abbrev pub onField : Field → Choice → Choice → Choice
-onField wide x y = x
-onField nowhere x y = y
-onField short x y = y
-onField early x y = y
-
-abbrev pub orImm : Choice → Choice → Asked → Choice
-orImm x y q = onField (fieldOf (q .op0)) x y
 
 -- an immediate alone, or G(n)
 abbrev pub immOrUnary : ℕ → ℕ → ℕ → Asked → Choice
@@ -154,10 +158,10 @@ control n q = code 0xEB (16 * codeOf (q .op0) + n)
 unfoldable pub chooseBy : Opcode → Asked → Choice
 chooseBy opcode.NOP q = nothing
 chooseBy opcode.ABS q = unary 0x76 0xF q
-chooseBy opcode.ADC q = binary 0x76 6 q
+chooseBy opcode.ADC q = arithmetic 0x76 6 0xB0 q
 chooseBy opcode.ADCF q = nothing
-chooseBy opcode.ADD q = pick (sameName (q .op1) SP) (only 0x7C 0xEB q) (binary 0x76 4 q)
-chooseBy opcode.AND q = binary 0x76 2 q
+chooseBy opcode.ADD q = pick (sameName (q .op1) SP) (orImm (only 0x7C 0xEB q) nothing q) (arithmetic 0x76 4 0xA0 q)
+chooseBy opcode.AND q = arithmetic 0x76 2 0x90 q
 chooseBy opcode.BAND q = bit 4 q
 chooseBy opcode.BCLR q = bit 8 q
 chooseBy opcode.BMEQ q = condition 2 q
@@ -185,7 +189,7 @@ chooseBy opcode.BTST q = bit 0xB q
 chooseBy opcode.BTSTC q = bit 0 q
 chooseBy opcode.BTSTS q = bit 1 q
 chooseBy opcode.BXOR q = bit 0xC q
-chooseBy opcode.CMP q = binary 0x76 8 q
+chooseBy opcode.CMP q = arithmetic 0x76 8 0xC0 q
 chooseBy opcode.DADC q = decimal 2 q
 chooseBy opcode.DADD q = decimal 0 q
 chooseBy opcode.DIV q = immOrUnary 0xE1 0x76 0xD q
@@ -213,7 +217,7 @@ chooseBy opcode.LDCTX q = code 0x7C 0xF0
 chooseBy opcode.LDE q = binary 0x74 (8 + far (q .op0)) q
 chooseBy opcode.LDIPL q = nothing
 chooseBy opcode.LT q = nothing
-chooseBy opcode.MOV q = binary 0x74 (pick (sameName (q .op0) «Disp8_SP») 0xB 0xC) q
+chooseBy opcode.MOV q = pick (sameName (q .op0) «Disp8_SP») (binary 0x74 0xB q) (arithmetic 0x74 0xC 0x72 q)
 chooseBy opcode.MOVA q = code 0xEB (16 * codeOf (q .op1) + codeOf (q .op0))
 chooseBy opcode.MOVHH q = half 3 q
 chooseBy opcode.MOVHL q = half 2 q
@@ -224,19 +228,19 @@ chooseBy opcode.MULU q = nothing
 chooseBy opcode.NEG q = unary 0x74 5 q
 chooseBy opcode.NO q = nothing
 chooseBy opcode.NOT q = unary 0x74 7 q
-chooseBy opcode.OR q = binary 0x76 3 q
+chooseBy opcode.OR q = arithmetic 0x76 3 0x98 q
 chooseBy opcode.POP q = unary 0x74 0xD q
 chooseBy opcode.POPC q = control 3 q
-chooseBy opcode.POPM q = nothing
+chooseBy opcode.POPM q = code 0xED (q .number)
 chooseBy opcode.PUSH q = immOrUnary 0xE2 0x74 4 q
 chooseBy opcode.PUSHA q = code 0x7D (0x90 + codeOf (q .op0))
 chooseBy opcode.PUSHC q = control 2 q
-chooseBy opcode.PUSHM q = nothing
+chooseBy opcode.PUSHM q = code 0xEC (q .number)
 chooseBy opcode.RMPA q = only 0x7C 0xF1 q
 chooseBy opcode.ROLC q = unary 0x76 0xA q
 chooseBy opcode.RORC q = unary 0x76 0xB q
 chooseBy opcode.ROT q = binary 0x74 6 q
-chooseBy opcode.SBB q = binary 0x76 7 q
+chooseBy opcode.SBB q = arithmetic 0x76 7 0xB8 q
 chooseBy opcode.SHA q = shift 0xF 2 q
 chooseBy opcode.SHL q = shift 0xE 0 q
 chooseBy opcode.SMOVB q = only 0x7C 0xE9 q
@@ -245,11 +249,11 @@ chooseBy opcode.SSTR q = only 0x7C 0xEA q
 chooseBy opcode.STC q = code 0x7B (16 * (8 + codeOf (q .op1)) + codeOf (q .op0))
 chooseBy opcode.STCTX q = code 0x7D 0xF0
 chooseBy opcode.STE q = unary 0x74 (far (q .op1)) q
-chooseBy opcode.SUB q = binary 0x76 5 q
-chooseBy opcode.TST q = binary 0x76 0 q
+chooseBy opcode.SUB q = arithmetic 0x76 5 0xA8 q
+chooseBy opcode.TST q = arithmetic 0x76 0 0x80 q
 chooseBy opcode.WAIT q = code 0x7D 0xF3
 chooseBy opcode.XCHG q = twice 0x7A q
-chooseBy opcode.XOR q = binary 0x76 1 q
+chooseBy opcode.XOR q = arithmetic 0x76 1 0x88 q
 
 -- the code, if these are names that the opcode has in an unmarked row
 unfoldable pub chooseNamed : Opcode → Asked → Choice

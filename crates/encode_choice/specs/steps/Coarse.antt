@@ -9,7 +9,7 @@ use Rattle.laws.specs.Range.{upto}
 use Rattle.record.specs.declared.Opcode.{Opcode}
 use Rattle.record.specs.declared.Width.{Width}
 use Rattle.record.specs.declared.Operand.{Operand}
-use Rattle.record.specs.declared.Operand.the-variants.{Nothing, Imm4, Imm8}
+use Rattle.record.specs.declared.Operand.the-variants.{Nothing, Imm4, Imm8, RegList}
 use Rattle.record.specs.Numbers.{widthNo}
 use Rattle.record.specs.declared.Key.{Key}
 use Rattle.record.specs.declared.fields.Field.{Field}
@@ -29,9 +29,9 @@ classOf v = pick (eqb v 0) 0 (pick (ltb v 256) 1 (pick (ltb v 65536) 2 (pick (lt
 abbrev pub rep : ℕ → ℕ
 rep c = getD (0 ∷ 1 ∷ 256 ∷ 65536 ∷ twentyBits ∷ []) c 0
 
--- the names whose number is part of the code at no width: Imm4 of the long shifts, Imm8 of INT
+-- the names whose number is part of the code at no width: Imm4 of the long shifts, Imm8 of INT, RegList of PUSHM and POPM
 abbrev pub inCode : Operand → Bool
-inCode o = either (sameName o Imm4) (sameName o Imm8)
+inCode o = either (sameName o Imm4) (either (sameName o Imm8) (sameName o RegList))
 
 -- such numbers are told apart one by one
 unfoldable pub whole : Width → Operand → Bool

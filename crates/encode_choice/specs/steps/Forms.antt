@@ -14,7 +14,7 @@ use Rattle.record.specs.declared.Width.{Width}
 use Rattle.record.specs.declared.Width.the-variants.{None, B, W}
 use Rattle.record.specs.declared.Operand.{Operand}
 use Rattle.record.specs.declared.Operand.the-variants.{Nothing, Imm4, Imm8, Imm16, R0L, R0H, R1L, R1H, R0, R1, R2R0, R3R1, A0, A1, A1A0}
-use Rattle.record.specs.declared.Operand.the-variants.{«Disp8_SP», «Disp20_A0», «Disp20_A1», «Deref_A1A0», Abs16, Abs20, Disp8, SP}
+use Rattle.record.specs.declared.Operand.the-variants.{«Disp8_SP», «Disp20_A0», «Disp20_A1», «Deref_A1A0», Abs16, Abs20, Disp8, RegList, SP}
 use Rattle.record.specs.Numbers.{sizeNo}
 use Rattle.record.specs.Same.{sameName, among}
 use Rattle.rows.specs.Codes.{byteNames, wordNames, bitNames, controlNames}
@@ -22,14 +22,14 @@ use Rattle.encode_choice.specs.declared.Asked.{Asked}
 use Rattle.encode_choice.specs.declared.name_sets.Form.{Form}
 use Rattle.encode_choice.specs.declared.name_sets.Form.the-variants as form
 
--- the form of each opcode; those without an unmarked row have none. (Half is MOVLL and MOVHH, HalfRegister MOVLH and MOVHL, which are unmarked at R0L, A0 and A1 only.)
+-- the form of each opcode; those without an unmarked row have none. (Sum is ADD, which has SP too, beside an immediate alone. Half is MOVLL and MOVHH, HalfRegister MOVLH and MOVHL, which are unmarked at R0L, A0 and A1 only.)
 unfoldable pub formOf : Opcode → Form
 formOf opcode.NOP = form.Unused
 formOf opcode.ABS = form.General
-formOf opcode.ADC = form.Immediate
+formOf opcode.ADC = form.Arithmetic
 formOf opcode.ADCF = form.Unused
 formOf opcode.ADD = form.Sum
-formOf opcode.AND = form.Immediate
+formOf opcode.AND = form.Arithmetic
 formOf opcode.BAND = form.Bit
 formOf opcode.BCLR = form.Bit
 formOf opcode.BMEQ = form.FlagOrBit
@@ -57,7 +57,7 @@ formOf opcode.BTST = form.Bit
 formOf opcode.BTSTC = form.Bit
 formOf opcode.BTSTS = form.Bit
 formOf opcode.BXOR = form.Bit
-formOf opcode.CMP = form.Immediate
+formOf opcode.CMP = form.Arithmetic
 formOf opcode.DADC = form.Decimal
 formOf opcode.DADD = form.Decimal
 formOf opcode.DIV = form.GeneralOrImmediate
@@ -96,19 +96,19 @@ formOf opcode.MULU = form.Unused
 formOf opcode.NEG = form.General
 formOf opcode.NO = form.Unused
 formOf opcode.NOT = form.SizedGeneral
-formOf opcode.OR = form.Immediate
+formOf opcode.OR = form.Arithmetic
 formOf opcode.POP = form.General
 formOf opcode.POPC = form.Control
-formOf opcode.POPM = form.Unused
+formOf opcode.POPM = form.RegisterList
 formOf opcode.PUSH = form.GeneralOrImmediate
 formOf opcode.PUSHA = form.PushAddress
 formOf opcode.PUSHC = form.Control
-formOf opcode.PUSHM = form.Unused
+formOf opcode.PUSHM = form.RegisterList
 formOf opcode.RMPA = form.Block
 formOf opcode.ROLC = form.General
 formOf opcode.RORC = form.General
 formOf opcode.ROT = form.Rotate
-formOf opcode.SBB = form.Immediate
+formOf opcode.SBB = form.Arithmetic
 formOf opcode.SHA = form.Shift
 formOf opcode.SHL = form.Shift
 formOf opcode.SMOVB = form.Block
@@ -117,11 +117,11 @@ formOf opcode.SSTR = form.Block
 formOf opcode.STC = form.StoreControl
 formOf opcode.STCTX = form.StoreContext
 formOf opcode.STE = form.StoreFar
-formOf opcode.SUB = form.Immediate
-formOf opcode.TST = form.Immediate
+formOf opcode.SUB = form.Arithmetic
+formOf opcode.TST = form.Arithmetic
 formOf opcode.WAIT = form.Plain
 formOf opcode.XCHG = form.Exchange
-formOf opcode.XOR = form.Immediate
+formOf opcode.XOR = form.Arithmetic
 
 -- one thing at B, another at W, a third at no width
 abbrev pub at : {A : Type 0} → Width → A → A → A → A
@@ -140,7 +140,7 @@ carries form.General = false
 carries form.SizedGeneral = true
 carries form.GeneralOrImmediate = true
 carries form.ImmediateAlone = true
-carries form.Immediate = true
+carries form.Arithmetic = true
 carries form.Sum = true
 carries form.Move = true
 carries form.Rotate = true
@@ -168,6 +168,7 @@ carries form.Multiply = false
 carries form.Exchange = true
 carries form.StoreControl = false
 carries form.Control = false
+carries form.RegisterList = false
 
 -- the size of a form's rows at a width
 abbrev pub sizeFor : Form → Width → Size
@@ -207,9 +208,9 @@ names form.General w = go (general w) none
 names form.SizedGeneral w = go (general w) none
 names form.GeneralOrImmediate w = go (immediate w ++ general w) none
 names form.ImmediateAlone w = go (immediate w) none
-names form.Immediate w = go (immediate w) (general w)
-names form.Sum w = go (immediate w) (SP ∷ general w)
-names form.Move w = go («Disp8_SP» ∷ immediate w) (general w)
+names form.Arithmetic w = go (immediate w ++ general w) (general w)
+names form.Sum w = go (immediate w ++ general w) (SP ∷ general w)
+names form.Move w = go («Disp8_SP» ∷ (immediate w ++ general w)) (general w)
 names form.Rotate w = go (R1H ∷ []) (shifted w [])
 names form.Shift w = go (at w (R1H ∷ []) (R1H ∷ []) (R1H ∷ Imm4 ∷ [])) (shifted w (R2R0 ∷ R3R1 ∷ []))
 names form.Decimal w = go (at w (Imm8 ∷ R0H ∷ []) (Imm16 ∷ R1 ∷ []) []) (at w (R0L ∷ []) (R0 ∷ []) [])
@@ -235,10 +236,11 @@ names form.Multiply w = go (general w) (at w (R0L ∷ R1L ∷ A0 ∷ drop 6 byte
 names form.Exchange w = go (take 4 (general w)) (general w)
 names form.StoreControl w = go (at w [] wordNames []) controlNames
 names form.Control w = go (at w [] [] controlNames) none
+names form.RegisterList w = go (at w [] [] (RegList ∷ [])) none
 
 -- how many numbers a name has that is part of the code at no width
 abbrev pub numberLimit : Operand → ℕ
-numberLimit o = pick (sameName o Imm4) 16 64
+numberLimit o = pick (sameName o Imm4) 16 (pick (sameName o RegList) 256 64)
 
 -- what is asked for has the size and the names of its opcode's form
 unfoldable pub goesWith : Form → Asked → Bool

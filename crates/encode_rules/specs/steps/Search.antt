@@ -112,6 +112,7 @@ aim f k = record {
   marked = false;
   dropped = false;
   parts = noParts;
+  registers = 0;
 }
 
 abbrev pub other : Bool → Bool

@@ -27,6 +27,7 @@ made i d f o z w p q r = record {
   op2 = r;
   marked = false;
   dropped = false;
+  registers = 0;
   parts = noParts;
 }
 

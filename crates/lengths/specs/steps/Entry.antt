@@ -2,27 +2,27 @@
 use Prim.Native.Nat.{ℕ, suc, _*_, _/_, _%_}
 use mathlib.Core.List.{List, [], _∷_}
 use lib.ListN.{getD}
-use lib.Dec.{eqb, leb}
+use lib.Dec.{leb}
 use Rattle.laws.specs.Choice.{pick}
-use Rattle.rows.specs.Rows.{Group, groups, known}
+use Rattle.rows.specs.Groups.{known}
+use Rattle.rows.specs.Lists.{oneOf}
 use Rattle.lengths.specs.declared.Asked.{Asked}
 use Rattle.lengths.specs.declared.Asked.the-variants.{Code, Refused}
-use Rattle.lengths.specs.steps.Table.{table}
+use Rattle.lengths.specs.steps.Table.{sharing, table}
 
--- a row for each first byte, in the order of the first bytes
-abbrev pub placeIn : List Group → ℕ → ℕ
+-- the first row that a first byte shares
+abbrev pub placeIn : List (List ℕ) → ℕ → ℕ
 placeIn [] a = 0
-placeIn (g ∷ gs) a = pick (eqb a (g .byte)) 0 (suc (placeIn gs a))
+placeIn (firsts ∷ more) a = pick (oneOf firsts a) 0 (suc (placeIn more a))
 
 unfoldable pub place : ℕ → ℕ
-unfolding groups
-place = placeIn groups
+place = placeIn sharing
 
 -- a length by its digit, or eight times a refusal by its letter
 abbrev pub valueOf : ℕ → ℕ
 valueOf c = pick (leb c 57) (c % 16) (8 * (c % 16))
 
--- by a first byte's place and a second byte
+-- by a row's place and a second byte
 unfoldable pub character : ℕ → ℕ → ℕ
 unfolding table
 character p b = getD (getD table p []) b 0

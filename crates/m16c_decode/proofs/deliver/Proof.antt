@@ -1,9 +1,10 @@
 -- `m16c_decode::deliver` meets its contract.
 -- Assumes nothing.
-use mathlib.Core.Path.{ap, _∙_}
+use mathlib.Core.Path.{sym, ap, _∙_}
 use native.Mathlib.Omega.{arith}
 use lib.ListN.{length, length-set}
 use borrow.Author.Needs.{needs}
+use Rattle.record.specs.Numbers.{operandNo}
 use Rattle.m16c_decode.specs.Decoded.{numbersOf}
 use Rattle.m16c_decode.proofs.Stores.{stored, as-long}
 use Rattle.m16c_decode.proofs.deliver.Statement.{statement}
@@ -11,7 +12,7 @@ use Rattle.m16c_decode.proofs.deliver.Tie as tie
 
 deliver-parts-requires : tie.Need-deliver-parts-requires
 deliver-parts-requires c κs =
-    let start = c .before .before .before .before .before .before .before .before .before .before .before .before .before .before .before in
+    let start = c .before .before .before .before .before .before .before .before .before .before .before .before .before .before .before .before in
     simp length-set (start .pre .0)
 
 returns : tie.Need-returns
@@ -26,40 +27,40 @@ returns c =
     let width = operand0 .before in
     let size = width .before in
     let opcode = size .before in
-    let start = opcode .before .before .before .before in
+    let start = opcode .before .before .before .before .before in
     told .deliver-parts .ensures
-    ∙ stored (start .args .out .now) _ _ _ _ _ _ (start .pre .0)
+    ∙ stored (start .args .out .now) _ _ _ _ _ _ _ (start .pre .0)
     (opcode .opcode-number .ensures) (size .size-number .ensures) (width .width-number .ensures)
-    (operand0 .operand-number .ensures) (operand1 .operand-number2 .ensures) (operand2 .operand-number3 .ensures)
+    (operand0 .operand-number .ensures) (operand1 .operand-number2 .ensures) (operand2 .operand-number3 .ensures ∙ ap operandNo (sym (start .pre .3)))
     (marked .flag-number .ensures) (dropped .flag-number2 .ensures)
 
 same-length : tie.Need-same-length
 same-length c =
-    let start = c .before .before .before .before .before .before .before .before .before .before .before .before .before .before .before .before .before .before in
+    let start = c .before .before .before .before .before .before .before .before .before .before .before .before .before .before .before .before .before .before .before in
     ap length (returns c) ∙ as-long (start .args .a) (start .args .out .now) (start .pre .0)
 
--- `first`, the twelfth field of a record, has two bytes
-cast-first : tie.Need-cast-out-3
-cast-first c = omega (arith, c .struct-known3 .given .1 .1 .1 .1 .1 .1 .1 .1 .1 .1 .1 .0)
+-- `first`, the thirteenth field of a record, has two bytes
+cast-first : tie.Need-cast-out-4
+cast-first c = omega (arith, c .struct-known4 .given .1 .1 .1 .1 .1 .1 .1 .1 .1 .1 .1 .1 .0)
+
+-- `registers`, the sixth, has one
+cast-registers : tie.Need-cast-out
+cast-registers c = omega (arith, c .struct-known .given .1 .1 .1 .1 .1 .0)
 
 pub deliver-spec : {M : Type 1} → statement M
 deliver-spec = tie.close (tie.spec
-    (λ c. search needs) (λ c. search needs) (λ c κs. search needs) (λ c. simp length-set (omega (arith, c .before .before .before .before .pre .0)))
-    (λ c κs. search needs) (λ c. simp length-set (omega (arith, c .before .before .before .before .before .pre .0))) (λ c κs. search needs)
-    (λ c. simp length-set (omega (arith, c .before .before .before .before .before .before .pre .0))) (λ c κs. search needs)
+    cast-registers (λ c. search needs) (λ c. search needs) (λ c. simp length-set (omega (arith, c .before .before .before .before .pre .0))) (λ c κs. search needs) (λ c. simp length-set (omega (arith, c .before .before .before .before .before .pre .0)))
+    (λ c κs. search needs) (λ c. simp length-set (omega (arith, c .before .before .before .before .before .before .pre .0))) (λ c κs. search needs)
     (λ c. simp length-set (omega (arith, c .before .before .before .before .before .before .before .pre .0))) (λ c κs. search needs)
     (λ c. simp length-set (omega (arith, c .before .before .before .before .before .before .before .before .pre .0))) (λ c κs. search needs)
-    (λ c. simp length-set (omega (arith, c .before .before .before .before .before .before .before .before .before .pre .0)))
-    (λ c. simp length-set (omega (arith, c .before .before .before .before .before .before .before .before .before .pre .0))) (λ c. search needs)
+    (λ c. simp length-set (omega (arith, c .before .before .before .before .before .before .before .before .before .pre .0))) (λ c κs. search needs)
     (λ c. simp length-set (omega (arith, c .before .before .before .before .before .before .before .before .before .before .pre .0)))
+    (λ c. simp length-set (omega (arith, c .before .before .before .before .before .before .before .before .before .before .pre .0))) (λ c. search needs)
+    (λ c. simp length-set (omega (arith, c .before .before .before .before .before .before .before .before .before .before .before .pre .0)))
     cast-first (λ c. simp length-set (omega (
       arith,
-      c .before .before .before .before .before .before .before .before .before .before .before .pre .0,
-    ))) (λ c. search needs)
-    (λ c. simp length-set (omega (
-      arith,
       c .before .before .before .before .before .before .before .before .before .before .before .before .pre .0,
-    ))) (λ c κs. search needs)
+    ))) (λ c. omega (arith, c .before .before .before .before .before .before .before .before .before .before .before .before .before .pre .2))
     (λ c. simp length-set (omega (
       arith,
       c .before .before .before .before .before .before .before .before .before .before .before .before .before .pre .0,
@@ -67,4 +68,8 @@ deliver-spec = tie.close (tie.spec
     (λ c. simp length-set (omega (
       arith,
       c .before .before .before .before .before .before .before .before .before .before .before .before .before .before .pre .0,
+    ))) (λ c κs. search needs)
+    (λ c. simp length-set (omega (
+      arith,
+      c .before .before .before .before .before .before .before .before .before .before .before .before .before .before .before .pre .0,
     ))) deliver-parts-requires same-length returns)

@@ -8,7 +8,7 @@ use lib.ListN.{getD, drop}
 use borrow.Author.Tests.{lt-ltb, le-ltb}
 use borrow.Author.Needs.{needs}
 use Rattle.m16c_decode.specs.Decoded.{decoded, entries, numbersOf}
-use Rattle.m16c_decode.proofs.Stores.{small, short}
+use Rattle.m16c_decode.proofs.Stores.{small, none-third, short}
 use Rattle.m16c_decode.proofs.m16c_decode.Statement.{statement}
 use Rattle.m16c_decode.proofs.m16c_decode.Tie as tie
 
@@ -23,7 +23,7 @@ deliver-requires c κs =
     let t = small (start .image .now) (start .at) byte in
     let l = short (start .image .now) (start .at) in
     let e = c .before .decode .ensures in
-    (c .before .before .if1 .left, rw e t, rw e (omega arith))
+    (c .before .before .if1 .left, rw e t, rw e (omega arith), rw e (none-third (start .image .now) (start .at)))
 
 returns-2 : tie.Need-returns-2
 unfolding decoded

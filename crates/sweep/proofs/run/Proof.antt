@@ -6,7 +6,7 @@ use mathlib.Core.List.{List}
 use native.Mathlib.Omega.{arith}
 use lib.ListN.{length, length-set}
 use borrow.Author.Needs.{needs}
-use Rattle.rows.specs.Rows.{document01}
+use Rattle.rows.specs.Groups.{document01}
 use Rattle.rows.specs.Run.{decodeRows}
 use Rattle.sweep.specs.declared.Rule.the-variants.{Stop}
 use Rattle.sweep.specs.declared.step.Step.{Step}

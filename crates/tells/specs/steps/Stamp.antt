@@ -5,7 +5,7 @@ use lib.Dec.{eqb}
 use Rattle.laws.specs.Choice.{pick, either}
 use Rattle.record.specs.declared.Record.{Record}
 use Rattle.record.specs.declared.Opcode.{Opcode}
-use Rattle.record.specs.declared.Opcode.the-variants.{NOP, INT}
+use Rattle.record.specs.declared.Opcode.the-variants.{NOP, INT, PUSHM, POPM}
 use Rattle.record.specs.declared.Size.{Size}
 use Rattle.record.specs.declared.Size.the-variants as size
 use Rattle.record.specs.declared.Width.{Width}
@@ -15,8 +15,8 @@ use Rattle.record.specs.Parts.{noParts}
 use Rattle.record.specs.Same.{field0, valueOf}
 use Rattle.rows.specs.Row.{Row}
 use Rattle.rows.specs.Codes.{condOf}
-use Rattle.rows.specs.Rows.{document01}
-use Rattle.rows.specs.Run.{accepted}
+use Rattle.rows.specs.Groups.{document01}
+use Rattle.rows.specs.Run.{acceptedBy}
 use Rattle.rows.specs.Fate.{reach}
 use Rattle.encode_rules.specs.steps.Search.{means, condByte}
 
@@ -26,9 +26,11 @@ shownName None o = pick (means (condOf (condByte o)) o) (opcodeNo NOP) (opcodeNo
 shownName B o = opcodeNo o
 shownName W o = opcodeNo o
 
--- the number of operand 0 is part of the code
+-- the number of operand 0 is part of the code: of INT, PUSHM, POPM and the long shifts
 unfoldable pub inCode : Opcode → Size → Bool
-inCode o z = either (eqb (opcodeNo o) (opcodeNo INT)) (eqb (sizeNo z) (sizeNo size.L))
+inCode o z =
+    either (eqb (opcodeNo o) (opcodeNo INT))
+    (either (eqb (opcodeNo o) (opcodeNo PUSHM)) (either (eqb (opcodeNo o) (opcodeNo POPM)) (eqb (sizeNo z) (sizeNo size.L))))
 
 -- that number, and 0 where none is part of the code
 unfoldable pub codeNumber : Record → ℕ
@@ -50,7 +52,7 @@ stampOf r =
 -- the record that a row makes, but that no byte behind the second was read
 abbrev pub unread : Row → Record
 unread w =
-    accepted (w .face .opcode) (w .face .size) (w .face .width) (w .face .op0) (w .face .op1) (w .face .marked)
+    acceptedBy (w .face)
     (record { «imm_wide» = w .number; dispabs = 0; first = 0; dropped = false; parts = noParts; taken = 2 + reach (w .reads) }) .inst
 
 -- the stamp of a code

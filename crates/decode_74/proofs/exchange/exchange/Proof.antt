@@ -16,7 +16,7 @@ returns : tie.Need-returns
 unfolding runRow row
 returns c = let g = c .before .before .before in
     let s = g .before .before .before .before in
-    ended _ _ _ _ (first _ _ (g .general .ensures)) (c .finish .ensures) refl (c .before .before .size-of .ensures) (c .before .width-of .ensures)
+    ended _ _ refl _ (first _ _ (g .general .ensures)) (c .finish .ensures) refl (c .before .before .size-of .ensures) (c .before .width-of .ensures)
     (named-high (widthOf (s .args .byte)) (s .args .b) (omega (arith, s .fits .b)) (g .before .before .general-name .ensures)) (g .before .general-name2 .ensures) refl
 
 pub exchange-spec : {M : Type 1} → statement M

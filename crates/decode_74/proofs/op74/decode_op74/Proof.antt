@@ -51,7 +51,7 @@ returns-2 c = let g = c .before .before .before .before .before .before .before 
     (goes _ _ _ _ (first _ _ (g .general .ensures)) _ (c .before .before .before .before .before .before .before .s .given .1)
     (behind (rest g) _ _ _
     (goes _ _ _ _ (near _ _ _ (behind-general (start g .args .b % 16) (now (start g .args .bs)) (g .general .ensures) (c .before .before .before .before .before .before .before .s .given .1)) (c .before .before .before .before .before .rest-74 .ensures)) _ (c .before .before .before .t .given .1)
-    (done _ _ _ (c .accept .ensures) refl (g .before .before .size-74 .ensures) (g .before .width-of .ensures) (name-is g) (other-is g) refl))))
+    (done _ refl _ (c .accept .ensures) refl (g .before .before .size-74 .ensures) (g .before .width-of .ensures) (name-is g) (other-is g) refl))))
 
 returns-3 : tie.Need-returns-3
 unfolding runRow table74
@@ -72,7 +72,7 @@ returns-5 c = let g = c .before .before .before .before .before .before .before 
     (goes _ _ _ _ (first _ _ (g .general .ensures)) _ (c .before .before .before .before .before .before .before .s .given .1)
     (behind (rest g) _ _ _
     (goes _ _ _ _ (near _ _ _ (behind-general (start g .args .b % 16) (now (start g .args .bs)) (g .general .ensures) (c .before .before .before .before .before .before .before .s .given .1)) (c .before .before .before .before .before .rest-74 .ensures)) _ (c .before .before .before .t .given .1)
-    (done _ _ _ (c .accept2 .ensures) refl (g .before .before .size-74 .ensures) (g .before .width-of .ensures) (other-is g) (name-is g) refl))))
+    (done _ refl _ (c .accept2 .ensures) refl (g .before .before .size-74 .ensures) (g .before .width-of .ensures) (other-is g) (name-is g) refl))))
 
 pub decode-op74-spec : {M : Type 1} → statement M
 decode-op74-spec =

@@ -22,7 +22,7 @@ unfolding runRow row both76
 returns-2 c = let g = c .before .before .before .before .before .before .before .before in
     let s = g .before .before .before .before .args in
     goes _ _ _ _ (first _ _ (g .general .ensures)) _ (c .before .before .before .before .before .before .s .given .1)
-    (ended _ _ _ _ (near _ _ _ (behind-general (s .b % 16) (now (s .bs)) (g .general .ensures) (c .before .before .before .before .before .before .s .given .1)) (c .before .before .before .before .immediate .ensures)) (c .finish .ensures) refl (c .before .before .before .size-of .ensures)
+    (ended _ _ refl _ (near _ _ _ (behind-general (s .b % 16) (now (s .bs)) (g .general .ensures) (c .before .before .before .before .before .before .s .given .1)) (c .before .before .before .before .immediate .ensures)) (c .finish .ensures) refl (c .before .before .before .size-of .ensures)
     (c .before .before .width-of .ensures) (c .before .immediate-name .ensures) (g .before .before .general-name .ensures) refl)
 
 pub both-76-spec : {M : Type 1} → statement M

@@ -12,7 +12,7 @@ use Rattle.decode_74.proofs.op76.immediate_76.Tie as tie
 
 returns : tie.Need-returns
 unfolding runRow row immediate76
-returns c = ended _ _ _ _ (first _ _ (c .before .before .before .before .immediate .ensures)) (c .finish .ensures) refl
+returns c = ended _ _ refl _ (first _ _ (c .before .before .before .before .immediate .ensures)) (c .finish .ensures) refl
     (c .before .before .before .size-of .ensures) (c .before .before .width-of .ensures) (c .before .immediate-name .ensures) refl refl
 
 pub immediate-76-spec : {M : Type 1} → statement M

@@ -15,13 +15,13 @@ returns : tie.Need-returns
 unfolding runRow row unary76
 returns c = let g = c .before .before .before .before in
     rw (eq-eqb _ 13 (c .before .before .if1 .taken))
-    (ended _ _ _ _ (first _ _ (g .general .ensures)) (c .finish .ensures) refl (c .before .size-of .ensures)
+    (ended _ _ refl _ (first _ _ (g .general .ensures)) (c .finish .ensures) refl (c .before .size-of .ensures)
     (c .before .before .before .width-of .ensures) (g .before .before .general-name .ensures) refl refl)
 
 returns-2 : tie.Need-returns-2
 unfolding runRow row unary76
 returns-2 c = let g = c .before .before .before in
-    rw (ne-eqb _ 13 (c .before .if1 .left)) (ended _ _ _ _ (first _ _ (g .general .ensures)) (c .finish2 .ensures) refl refl
+    rw (ne-eqb _ 13 (c .before .if1 .left)) (ended _ _ refl _ (first _ _ (g .general .ensures)) (c .finish2 .ensures) refl refl
     (c .before .before .width-of .ensures) (g .before .before .general-name .ensures) refl refl)
 
 pub unary-76-spec : {M : Type 1} → statement M

@@ -31,7 +31,7 @@ returns-3 c = let g = c .before .before .before .before .before .before .before 
     let s = g .before .before .before .before in
     goes _ _ _ _ (first _ _ (g .general .ensures)) _ (c .before .before .before .before .before .before .s .given .1)
     (rw (sym (c .before .before .before .before .bad-mul .ensures) ∙ c .before .before .before .if1 .left)
-    (ended _ _ _ _ (near _ _ _ (behind-general (s .args .b / 16) (now (s .args .bs)) (g .general .ensures) (c .before .before .before .before .before .before .s .given .1)) (c .before .before .general2 .ensures)) (c .finish .ensures) refl refl (c .before .width-of .ensures)
+    (ended _ _ refl _ (near _ _ _ (behind-general (s .args .b / 16) (now (s .args .bs)) (g .general .ensures) (c .before .before .before .before .before .before .s .given .1)) (c .before .before .general2 .ensures)) (c .finish .ensures) refl refl (c .before .width-of .ensures)
     (named-high (widthOf (s .args .byte)) (s .args .b) (omega (arith, s .fits .b)) (g .before .before .general-name .ensures)) (g .before .general-name2 .ensures) refl))
 
 pub decode-op78-spec : {M : Type 1} → statement M

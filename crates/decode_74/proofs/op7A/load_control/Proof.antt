@@ -24,7 +24,7 @@ returns-3 : tie.Need-returns-3
 unfolding runRow row
 returns-3 c = let g = c .before .before .before .before .before in
     goes _ _ _ _ (first _ _ (g .general .ensures)) _ (c .before .before .before .s .given .1)
-    (rw (ne-eqb _ 0 (c .before .if1 .left)) (done _ _ _ (c .accept .ensures) refl refl refl (g .before .before .general-name .ensures) (g .before .control-name .ensures) refl))
+    (rw (ne-eqb _ 0 (c .before .if1 .left)) (done _ refl _ (c .accept .ensures) refl refl refl (g .before .before .general-name .ensures) (g .before .control-name .ensures) refl))
 
 pub load-control-spec : {M : Type 1} → statement M
 load-control-spec =

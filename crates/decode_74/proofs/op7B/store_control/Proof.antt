@@ -19,7 +19,7 @@ returns c = rw (eq-eqb _ 0 (c .before .if1 .taken)) (stops InvalidOperand _ _ _ 
 returns-2 : tie.Need-returns-2
 unfolding runRow row
 returns-2 c = rw (ne-eqb _ 0 (c .before .before .before .before .if1 .left))
-    (ended _ _ _ _ (first _ _ (c .before .general .ensures)) (c .finish .ensures) refl refl refl (c .before .before .before .general-name .ensures) (c .before .before .control-name .ensures) refl)
+    (ended _ _ refl _ (first _ _ (c .before .general .ensures)) (c .finish .ensures) refl refl refl (c .before .before .before .general-name .ensures) (c .before .before .control-name .ensures) refl)
 
 pub store-control-spec : {M : Type 1} → statement M
 store-control-spec = tie.close (tie.spec (λ c κs. search needs) returns (λ c κs. search needs) (λ c κs. search needs) (λ c κs. search needs) (λ c κs. search needs) returns-2)

@@ -39,7 +39,7 @@ returns-4 : tie.Need-returns-4
 unfolding runRow row
 returns-4 c = let t = c .before .before .before .before .before in
     rw (tabled (start t), lt-leb _ _ (t .before .before .before .if1 .left), ne-eqb _ 2 (c .before .if2 .left))
-    (goes _ _ _ _ (first _ _ (t .bit .ensures)) _ (c .before .before .before .s .given .1) (done _ _ _ (c .accept .ensures) refl refl refl (t .before .before .bit-name .ensures) refl refl))
+    (goes _ _ _ _ (first _ _ (t .bit .ensures)) _ (c .before .before .before .s .given .1) (done _ refl _ (c .accept .ensures) refl refl refl (t .before .before .bit-name .ensures) refl refl))
 
 pub decode-op7E-spec : {M : Type 1} → statement M
 decode-op7E-spec =

@@ -11,7 +11,7 @@ use Rattle.decode_7c.proofs.op7C.enter.Tie as tie
 
 returns : tie.Need-returns
 unfolding runRow row row7CF
-returns c = ended _ _ _ _ (first _ _ (c .before .imm-byte .ensures)) (c .finish .ensures) refl refl refl refl refl refl
+returns c = ended _ _ refl _ (first _ _ (c .before .imm-byte .ensures)) (c .finish .ensures) refl refl refl refl refl refl
 
 pub enter-spec : {M : Type 1} → statement M
 enter-spec = tie.close (tie.spec (λ c κs. search needs) (λ c κs. search needs) returns)

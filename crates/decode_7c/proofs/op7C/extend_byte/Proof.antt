@@ -22,7 +22,7 @@ returns-2 : tie.Need-returns-2
 unfolding runRow row
 returns-2 c = let s = c .before .before .before .before .before .before in
     rw (sym (no-exts (s .args .b % 16) (search needs)) ∙ sym (c .before .before .before .before .has .ensures) ∙ c .before .before .before .if1 .left)
-    (ended _ _ _ _ (first _ _ (c .before .general .ensures)) (c .finish .ensures) refl refl refl (c .before .before .general-name .ensures) refl refl)
+    (ended _ _ refl _ (first _ _ (c .before .general .ensures)) (c .finish .ensures) refl refl refl (c .before .before .general-name .ensures) refl refl)
 
 pub extend-byte-spec : {M : Type 1} → statement M
 extend-byte-spec = tie.close (tie.spec (λ c κs. search needs) (λ c κs. search needs) returns (λ c κs. search needs) (λ c κs. search needs) (λ c κs. search needs) returns-2)

@@ -20,7 +20,7 @@ returns-2 : tie.Need-returns-2
 unfolding runRow row
 returns-2 c =
     rw (sym (c .before .before .before .before .long-refused .ensures) ∙ c .before .before .before .if1 .left)
-    (ended _ _ _ _ (first _ _ (c .before .general .ensures)) (c .finish .ensures) refl refl refl (c .before .before .pair-name .ensures B) refl refl)
+    (ended _ _ refl _ (first _ _ (c .before .general .ensures)) (c .finish .ensures) refl refl refl (c .before .before .pair-name .ensures B) refl refl)
 
 pub extend-pair-spec : {M : Type 1} → statement M
 extend-pair-spec =

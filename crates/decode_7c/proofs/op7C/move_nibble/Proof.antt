@@ -14,13 +14,13 @@ use Rattle.decode_7c.proofs.op7C.move_nibble.Tie as tie
 returns : tie.Need-returns
 unfolding runRow row nibble
 returns c = rw (lt-ltb _ 4 (c .before .if1 .taken))
-    (ended _ _ _ _ (first _ _ (c .before .before .general .ensures)) (c .finish .ensures) refl refl refl
+    (ended _ _ refl _ (first _ _ (c .before .before .general .ensures)) (c .finish .ensures) refl refl refl
     (c .before .before .before .before .before .general-name .ensures) refl (c .before .before .before .nibble-mark .ensures))
 
 returns-2 : tie.Need-returns-2
 unfolding runRow row nibble
 returns-2 c = rw (le-ltb _ 4 (c .before .if1 .left))
-    (ended _ _ _ _ (first _ _ (c .before .before .general .ensures)) (c .finish2 .ensures) refl refl refl refl
+    (ended _ _ refl _ (first _ _ (c .before .before .general .ensures)) (c .finish2 .ensures) refl refl refl refl
     (c .before .before .before .before .before .general-name .ensures) (c .before .before .before .nibble-mark .ensures))
 
 pub move-nibble-spec : {M : Type 1} → statement M

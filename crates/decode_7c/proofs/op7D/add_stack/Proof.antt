@@ -10,7 +10,7 @@ use Rattle.decode_7c.proofs.op7D.add_stack.Tie as tie
 
 returns : tie.Need-returns
 unfolding runRow row
-returns c = λ bs. done bs _ _ (c .accept .ensures ∙ ap (accepted _ _ _ _ _ _) (c .before .begin .ensures)) refl refl refl refl refl refl
+returns c = λ bs. done bs refl _ (c .accept .ensures ∙ ap (accepted _ _ _ _ _ _) (c .before .begin .ensures)) refl refl refl refl refl refl
 
 pub add-stack-spec : {M : Type 1} → statement M
 add-stack-spec = tie.close (tie.spec (λ c. search needs) (λ c κs. search needs) (λ c κs. search needs) returns)

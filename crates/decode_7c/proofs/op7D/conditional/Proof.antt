@@ -20,7 +20,7 @@ returns-2 : tie.Need-returns-2
 unfolding runRow row
 returns-2 c = let s = c .before .before .before .before .before in
     λ bs. rw (conditions (s .args .b % 16) (search needs), sym (c .before .before .before .before .no-condition .ensures) ∙ c .before .before .before .if1 .left)
-    (done bs _ _ (c .accept .ensures) refl refl refl refl refl (c .before .has .ensures))
+    (done bs refl _ (c .accept .ensures) refl refl refl refl refl (c .before .has .ensures))
 
 pub conditional-spec : {M : Type 1} → statement M
 conditional-spec =

@@ -19,7 +19,7 @@ returns c = rw (sym (c .before .before .long-refused .ensures) ∙ c .before .if
 returns-2 : tie.Need-returns-2
 unfolding runRow row jumpBy
 returns-2 c = rw (sym (c .before .before .before .before .before .long-refused .ensures) ∙ c .before .before .before .before .if1 .left)
-    (ended _ _ _ _ (first _ _ (c .before .long .ensures)) (c .finish .ensures) (c .before .before .jump-opcode .ensures) refl refl (c .before .before .before .long-name .ensures) refl refl)
+    (ended _ _ refl _ (first _ _ (c .before .long .ensures)) (c .finish .ensures) (c .before .before .jump-opcode .ensures) refl refl (c .before .before .before .long-name .ensures) refl refl)
 
 pub indirect-spec : {M : Type 1} → statement M
 indirect-spec =

@@ -34,7 +34,7 @@ returns-3 c = let s = c .before .before .before .before .before .before .before 
       sym
           (c .before .before .before .before .no-condition .ensures) ∙ c .before .before .before .if2 .left,
     )
-    (ended _ _ _ _ (first _ _ (c .before .imm-byte .ensures)) (c .finish .ensures) refl refl refl refl refl refl)
+    (ended _ _ refl _ (first _ _ (c .before .imm-byte .ensures)) (c .finish .ensures) refl refl refl refl refl refl)
 
 pub jump-spec : {M : Type 1} → statement M
 jump-spec =

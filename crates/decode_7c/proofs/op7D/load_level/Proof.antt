@@ -17,7 +17,7 @@ returns c = λ bs. rw (le-leb _ _ (c .before .if1 .taken)) (stops InvalidOperand
 returns-2 : tie.Need-returns-2
 unfolding runRow row
 returns-2 c = λ bs. rw (lt-leb _ _ (c .before .before .before .if1 .left))
-    (done bs _ _ (c .accept .ensures ∙ ap (accepted _ _ _ _ _ _) (c .before .begin .ensures ∙ ap begun (c .before .before .sign-extend .ensures))) refl refl refl refl refl refl)
+    (done bs refl _ (c .accept .ensures ∙ ap (accepted _ _ _ _ _ _) (c .before .begin .ensures ∙ ap begun (c .before .before .sign-extend .ensures))) refl refl refl refl refl refl)
 
 pub load-level-spec : {M : Type 1} → statement M
 load-level-spec = tie.close (tie.spec (λ c κs. search needs) returns (λ c κs. search needs) (λ c κs. search needs) (λ c κs. search needs) returns-2)

@@ -19,7 +19,7 @@ returns c = rw (lt-ltb _ 8 (c .before .if1 .taken)) (stops InvalidOperand _ _ _ 
 returns-2 : tie.Need-returns-2
 unfolding runRow row
 returns-2 c = let e = le-ltb _ 8 (c .before .before .before .if1 .left) in
-    rw e (ended _ _ _ _ (first _ _ (rw e at (c .before .general .ensures))) (c .finish .ensures) refl refl refl (c .before .before .general-name .ensures) refl refl)
+    rw e (ended _ _ refl _ (first _ _ (rw e at (c .before .general .ensures))) (c .finish .ensures) refl refl refl (c .before .before .general-name .ensures) refl refl)
 
 pub push-address-spec : {M : Type 1} → statement M
 push-address-spec = tie.close (tie.spec (λ c κs. search needs) returns (λ c κs. search needs) (λ c κs. search needs) (λ c κs. search needs) returns-2)

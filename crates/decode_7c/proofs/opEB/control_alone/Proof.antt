@@ -18,7 +18,7 @@ returns c = λ bs. rw (eq-eqb _ 0 (c .before .if1 .taken)) (stops InvalidOperand
 returns-2 : tie.Need-returns-2
 unfolding runRow row
 returns-2 c = λ bs. rw (ne-eqb _ 0 (c .before .before .if1 .left))
-    (done bs _ _ (c .accept .ensures) refl refl refl (named-control (c .before .before .before .args .h) (search needs) (c .before .control-name .ensures)) refl refl)
+    (done bs refl _ (c .accept .ensures) refl refl refl (named-control (c .before .before .before .args .h) (search needs) (c .before .control-name .ensures)) refl refl)
 
 pub control-alone-spec : {M : Type 1} → statement M
 control-alone-spec = tie.close (tie.spec (λ c κs. search needs) returns (λ c κs. search needs) (λ c κs. search needs) returns-2)

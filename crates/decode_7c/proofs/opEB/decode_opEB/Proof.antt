@@ -24,7 +24,7 @@ returns-2 c = let h : 8 ≤ c .before .before .before .before .args .b / 16 = om
 returns-3 : tie.Need-returns-3
 unfolding rowEB row runRow
 returns-3 c = let h : 8 ≤ c .before .before .before .before .before .args .b / 16 = omega arith in let k : 12 ≤ c .before .before .before .before .before .args .b / 16 = omega arith in
-    rw (le-ltb _ 8 h, le-ltb _ 12 k) (done _ _ _ (c .accept .ensures ∙ ap (accepted _ _ _ _ _ _)
+    rw (le-ltb _ 8 h, le-ltb _ 12 k) (done _ refl _ (c .accept .ensures ∙ ap (accepted _ _ _ _ _ _)
     (c .before .begin .ensures ∙ ap (λ x. begun (x % 64)) (joined (c .before .before .before .before .before .args .b)))) refl refl refl refl refl refl)
 
 pub decode-opEB-spec : {M : Type 1} → statement M

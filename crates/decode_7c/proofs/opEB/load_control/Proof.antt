@@ -21,7 +21,7 @@ returns-2 : tie.Need-returns-2
 unfolding runRow row rowEBlow
 returns-2 c = let s = c .before .before .before .before .before in
     rw (ne-eqb _ 0 (c .before .before .before .if1 .left))
-    (ended _ _ _ _ (first _ _ (c .before .imm-word .ensures)) (c .finish .ensures) refl refl refl refl (named-control (s .args .h) (search needs) (c .before .before .control-name .ensures)) refl)
+    (ended _ _ refl _ (first _ _ (c .before .imm-word .ensures)) (c .finish .ensures) refl refl refl refl (named-control (s .args .h) (search needs) (c .before .before .control-name .ensures)) refl)
 
 pub load-control-spec : {M : Type 1} → statement M
 load-control-spec = tie.close (tie.spec (λ c κs. search needs) returns (λ c κs. search needs) (λ c κs. search needs) (λ c κs. search needs) returns-2)

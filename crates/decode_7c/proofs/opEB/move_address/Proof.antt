@@ -19,7 +19,7 @@ unfolding runRow row
 returns c = let s = c .before .before .before .before .before in
     let h : s .args .b / 16 < 8 = omega arith in
     rw (lt-ltb _ 8 h)
-    (ended-before-none _ _ _ _ (first _ _ (c .before .general .ensures)) (c .finish .ensures) refl refl refl (c .before .before .before .general-name .ensures)
+    (ended-before-none _ _ refl _ (first _ _ (c .before .general .ensures)) (c .finish .ensures) refl refl refl (c .before .before .before .general-name .ensures)
     (named-high W (s .args .b) (search needs) (c .before .before .general-name2 .ensures)) refl)
 
 pub move-address-spec : {M : Type 1} → statement M

@@ -10,7 +10,7 @@ use Rattle.decode_7c.proofs.opEB.nothing_set.Tie as tie
 
 returns : tie.Need-returns
 unfolding runRow row
-returns c = λ bs. done bs _ _ (c .accept .ensures) refl refl refl refl refl refl
+returns c = λ bs. done bs refl _ (c .accept .ensures) refl refl refl refl refl refl
 
 pub nothing-set-spec : {M : Type 1} → statement M
 nothing-set-spec = tie.close (tie.spec (λ c κs. search needs) returns)

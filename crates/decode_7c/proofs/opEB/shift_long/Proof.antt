@@ -10,7 +10,7 @@ use Rattle.decode_7c.proofs.opEB.shift_long.Tie as tie
 
 returns : tie.Need-returns
 unfolding runRow row
-returns c = λ bs. done bs _ _ (c .accept .ensures ∙ ap (accepted _ _ _ _ _ _) (c .before .begin .ensures))
+returns c = λ bs. done bs refl _ (c .accept .ensures ∙ ap (accepted _ _ _ _ _ _) (c .before .begin .ensures))
     (c .before .before .before .shift-opcode .ensures) refl refl refl (c .before .before .shift-pair .ensures) refl
 
 pub shift-long-spec : {M : Type 1} → statement M

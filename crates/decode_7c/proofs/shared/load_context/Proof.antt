@@ -19,7 +19,7 @@ returns c = ends _ _ _ _ (first _ _ (c .before .before .before .disp-word .ensur
 returns-2 : tie.Need-returns-2
 unfolding runRow row
 returns-2 c = goes _ _ _ _ (first _ _ (c .before .before .before .before .before .before .disp-word .ensures)) _ (c .before .before .before .before .s .given .1)
-    (ended _ _ _ _ (near _ _ _ (second 2 (now (c .before .before .before .before .before .before .before .before .args .bs)) (omega arith) (c .before .before .before .before .before .before .disp-word .ensures) (c .before .before .before .before .s .given .1)) (c .before .before .long20 .ensures)) (c .finish .ensures) refl refl (c .before .width-of .ensures) refl refl refl)
+    (ended _ _ refl _ (near _ _ _ (second 2 (now (c .before .before .before .before .before .before .before .before .args .bs)) (omega arith) (c .before .before .before .before .before .before .disp-word .ensures) (c .before .before .before .before .s .given .1)) (c .before .before .long20 .ensures)) (c .finish .ensures) refl refl (c .before .width-of .ensures) refl refl refl)
 
 pub load-context-spec : {M : Type 1} → statement M
 load-context-spec =

@@ -19,14 +19,14 @@ returns-2 : tie.Need-returns-2
 unfolding runRow row
 returns-2 c = let i = c .before .before .before .before in
     rw (sym (i .before .before .before .bad-mul .ensures) ∙ i .before .before .if1 .left, c .before .before .if2 .taken)
-    (ended _ _ _ _ (first _ _ (i .immediate .ensures)) (c .finish .ensures) refl (c .before .size-of .ensures)
+    (ended _ _ refl _ (first _ _ (i .immediate .ensures)) (c .finish .ensures) refl (c .before .size-of .ensures)
     (c .before .before .before .width-of .ensures) (i .before .immediate-name .ensures) refl refl)
 
 returns-3 : tie.Need-returns-3
 unfolding runRow row
 returns-3 c = let i = c .before .before .before in
     rw (sym (i .before .before .before .bad-mul .ensures) ∙ i .before .before .if1 .left, c .before .if2 .left)
-    (ended _ _ _ _ (first _ _ (i .immediate .ensures)) (c .finish2 .ensures) refl refl (c .before .before .width-of .ensures) (i .before .immediate-name .ensures) refl refl)
+    (ended _ _ refl _ (first _ _ (i .immediate .ensures)) (c .finish2 .ensures) refl refl (c .before .before .width-of .ensures) (i .before .immediate-name .ensures) refl refl)
 
 pub mul-immediate-spec : {M : Type 1} → statement M
 mul-immediate-spec =

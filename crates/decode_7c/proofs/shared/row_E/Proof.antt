@@ -19,7 +19,7 @@ unfolding runRow row tableE
 returns c = let t = c .before .before .before .before .before in
     let s = t .before .before .before .before .before in
     rw (tablesE (widthOf (s .args .byte)) (s .args .b % 16) (search needs), sym (c .before .before .before .before .has .ensures) ∙ c .before .before .before .if1 .taken)
-    (ended _ _ _ _ (first _ _ (c .before .immediate .ensures)) (c .finish .ensures) refl (t .before .before .size-E .ensures)
+    (ended _ _ refl _ (first _ _ (c .before .immediate .ensures)) (c .finish .ensures) refl (t .before .before .size-E .ensures)
     (t .before .width-of .ensures) (c .before .before .immediate-name .ensures) (t .to-E .ensures) refl)
 
 returns-2 : tie.Need-returns-2
@@ -27,7 +27,7 @@ unfolding runRow row tableE
 returns-2 c = let t = c .before .before .before .before in
     let s = t .before .before .before .before .before in
     rw (tablesE (widthOf (s .args .byte)) (s .args .b % 16) (search needs), sym (c .before .before .before .has .ensures) ∙ c .before .before .if1 .left)
-    (done _ _ _ (c .accept .ensures) refl (t .before .before .size-E .ensures) (t .before .width-of .ensures) (c .before .from-E .ensures) (t .to-E .ensures) refl)
+    (done _ refl _ (c .accept .ensures) refl (t .before .before .size-E .ensures) (t .before .width-of .ensures) (c .before .from-E .ensures) (t .to-E .ensures) refl)
 
 pub row-E-spec : {M : Type 1} → statement M
 row-E-spec =

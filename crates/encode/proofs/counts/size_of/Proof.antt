@@ -3,7 +3,7 @@
 use mathlib.Core.Path.{sym, ap}
 use mathlib.Core.List.{[], _∷_, _++_}
 use borrow.Author.Needs.{needs}
-use Rattle.record.specs.declared.Operand.the-variants.{Imm4}
+use Rattle.record.specs.declared.Operand.the-variants.{Imm4, RegList}
 use Rattle.record.specs.Same.{sameName, among}
 use Rattle.record.proofs.Arms.{keys, others, numbered}
 use Rattle.encode.specs.steps.Slots.{oneByte, twoBytes, threeBytes, countOf, sizeBy, sizeOf}
@@ -22,13 +22,17 @@ three-bytes : tie.Need-returns-3
 unfolding countOf sizeOf sameName among
 three-bytes c = numbered (λ o. sizeBy 3) sizeOf (keys threeBytes) tt (c .before .args .o) (c .match .keys3)
 
-in-code : tie.Need-returns-4
+four-bits : tie.Need-returns-4
 unfolding countOf sizeOf sameName among
-in-code c = ap sizeOf (sym (c .enum-told .given .1))
+four-bits c = ap sizeOf (sym (c .enum-told .given .1))
 
-none : tie.Need-returns-5
+eight-bits : tie.Need-returns-5
 unfolding countOf sizeOf sameName among
-none c = numbered (λ o. 0) sizeOf (others (oneByte ++ twoBytes ++ threeBytes ++ (Imm4 ∷ []))) tt (c .before .args .o) (c .match .keys5)
+eight-bits c = ap sizeOf (sym (c .enum-told2 .given .1))
+
+none : tie.Need-returns-6
+unfolding countOf sizeOf sameName among
+none c = numbered (λ o. 0) sizeOf (others (oneByte ++ twoBytes ++ threeBytes ++ (Imm4 ∷ RegList ∷ []))) tt (c .before .args .o) (c .match .keys6)
 
 pub size-of-spec : {M : Type 1} → statement M
-size-of-spec = tie.close (tie.spec (λ c. search needs) one-byte two-bytes three-bytes in-code none)
+size-of-spec = tie.close (tie.spec (λ c. search needs) (λ c. search needs) one-byte two-bytes three-bytes four-bits eight-bits none)

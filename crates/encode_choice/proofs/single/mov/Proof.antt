@@ -12,7 +12,7 @@ returns c = rw (sym (c .before .before .same-name .ensures) ∙ c .before .if1 .
 
 returns-2 : tie.Need-returns-2
 unfolding chooseBy
-returns-2 c = rw (sym (c .before .before .same-name .ensures) ∙ c .before .if1 .left) (c .binary2 .ensures)
+returns-2 c = rw (sym (c .before .before .same-name .ensures) ∙ c .before .if1 .left) (c .arithmetic .ensures)
 
 pub mov-spec : {M : Type 1} → statement M
 mov-spec = tie.close (tie.spec (λ c κs. search needs) (λ c κs. search needs) (λ c κs. search needs) returns returns-2)
