@@ -19,17 +19,13 @@ use Rattle.encode_rules.specs.steps.Search.{bytesBy}
 use Rattle.encode_rules.specs.steps.Can.{can}
 use Rattle.encode_choice.specs.steps.Choose.{choose, encoded}
 use Rattle.encode_rules.specs.steps.Direct.{Choice, code, nothing, there, able, taken}
-use Rattle.encode_rules.proofs.Bools.{so, both-true, picked}
+use Rattle.encode_rules.proofs.Bools.{so, both-true, both-none, picked}
 use Rattle.encode_rules.proofs.Can.{parts}
 use Rattle.encode_choice.specs.steps.Coded.{coded}
 
 pub uncoded : (x : Choice) → coded x .first ≢ 0 → x ≡ code (coded x .first) (coded x .second)
 uncoded (code a b) h = refl
 uncoded nothing h = absurd (h refl)
-
-last-false : (a : Bool) → both a false ≡ false
-last-false true = refl
-last-false false = refl
 
 -- no code of the part begins with 0
 pub not-chosen : (x : Choice) (k : Key) → coded x .first ≡ 0 → none ≡ taken document01 x k
@@ -38,8 +34,8 @@ not-chosen nothing k h = refl
 not-chosen (code a b) k h =
     let out : able document01 a b k ≡ false =
     ap (λ z. both (both (ltb a 256) (both (ltb b 256) (known z))) (can (document01 .rowAt a b) k)) h
-    ∙ ap (λ z. both (both (ltb a 256) z) (can (document01 .rowAt a b) k)) (last-false (ltb b 256))
-    ∙ ap (λ z. both z (can (document01 .rowAt a b) k)) (last-false (ltb a 256))
+    ∙ ap (λ z. both (both (ltb a 256) z) (can (document01 .rowAt a b) k)) (both-none (ltb b 256))
+    ∙ ap (λ z. both z (can (document01 .rowAt a b) k)) (both-none (ltb a 256))
     in
     ap (λ z. pick z (bytes (bytesBy document01 a b k)) none) (sym out)
 

@@ -1,12 +1,13 @@
 -- Sets of names as numbers: the sets' bits are size and names.
 -- Assumes nothing.
 use Prim.Native.Nat.{ℕ}
-use mathlib.Core.Path.{_≡_, ap₂, _∙_}
-use mathlib.Core.Bool.{Bool}
-use mathlib.Core.List.{List}
+use mathlib.Core.Path.{_≡_, refl, sym, ap, ap₂, _∙_}
+use mathlib.Core.Bool.{Bool, true, false}
+use mathlib.Core.List.{List, [], _∷_}
+use native.Mathlib.Omega.{arith}
 use lib.Dec.{T, eqb}
 use borrow.Author.Tests.{eqb-true}
-use Rattle.laws.specs.Choice.{both}
+use Rattle.laws.specs.Choice.{pick, both, either}
 use Rattle.laws.specs.Table.{every}
 use Rattle.record.specs.declared.Opcode.{Opcode}
 use Rattle.record.specs.declared.Size.{Size}
@@ -19,9 +20,10 @@ use Rattle.record.specs.Same.{sameName, among}
 use Rattle.record.proofs.Apart.{opcodes, operands}
 use Rattle.record.proofs.Arms.{bit, bits-apart, every-opcode, every-operand}
 use Rattle.encode_choice.specs.declared.Asked.{Asked}
-use Rattle.encode_choice.specs.steps.Forms.{formOf, names, sizeFor}
-use Rattle.encode_choice.specs.steps.NameSet.{bitSet, first, second, sizeBit, hasBit, allIn}
-use Rattle.encode_rules.proofs.Bools.{so}
+use Rattle.encode_choice.specs.declared.name_sets.Form.{Form}
+use Rattle.encode_choice.specs.steps.Forms.{formOf, names, isEmpty, rowless, sizeFor}
+use Rattle.encode_choice.specs.steps.NameSet.{bitSet, first, second, ifRows, sizeBit, hasBit, allIn}
+use Rattle.encode_rules.proofs.Bools.{so, both-none}
 
 -- a set that agrees with a test at every name
 pub set-names : (m : ℕ) (f : Operand → Bool) → T (every (λ i x. eqb (bit (hasBit m (operandNo x))) (bit (f x))) 0 operands) → (x : Operand) → hasBit m (operandNo x) ≡ f x
@@ -70,17 +72,41 @@ in-size : (w : Width) (o : Opcode) (s : Size) → hasBit (first (formOf o) w) (s
 unfolding sizeAgrees
 in-size w o s = bits-apart _ _ (eqb-true _ _ (so _ (every-opcode (sizeAgrees w s) (all-sizes w s) o)))
 
+-- a set without a bit has no size
+no-size : (s : Size) → hasBit 0 (sizeBit s) ≡ false
+no-size size.None = refl
+no-size size.B = refl
+no-size size.W = refl
+no-size size.L = refl
+
+-- and of two lists, one of them empty, no two names are members
+neither : (xs ys : List Operand) → either (isEmpty xs) (isEmpty ys) ≡ true → (x y : Operand) → both (among xs x) (among ys y) ≡ false
+unfolding among
+neither [] ys e x y = refl
+neither (z ∷ zs) [] e x y = both-none (among (z ∷ zs) x)
+neither (z ∷ zs) (v ∷ vs) e x y = let d : _≡_ {A = ℕ} 0 1 = cc in absurd (omega arith)
+
 -- the bits of both sets are size and names
 module _ (o : Opcode) (q : Asked) where
+  abbrev f : Form
+  f = formOf o
+
   abbrev pub sized : Bool
-  sized = eqb (sizeNo (q .size)) (sizeNo (sizeFor (formOf o) (q .width)))
+  sized = eqb (sizeNo (q .size)) (sizeNo (sizeFor f (q .width)))
 
   abbrev pub named : Bool
-  named = both (among (names (formOf o) (q .width) .first) (q .op0)) (among (names (formOf o) (q .width) .second) (q .op1))
+  named = both (among (names f (q .width) .first) (q .op0)) (among (names f (q .width) .second) (q .op1))
 
-  pub in-sets : {m n : ℕ} → (m ≡ first (formOf o) (q .width)) × (n ≡ second (formOf o) (q .width)) → allIn m n q ≡ both sized named
-  in-sets e =
-      ap₂ (λ m n. allIn m n q) (e .0) (e .1)
-      ∙ ap₂ both (in-size (q .width) o (q .size))
+  in-both : allIn (first f (q .width)) (second f (q .width)) q ≡ both sized named
+  in-both =
+      ap₂ both (in-size (q .width) o (q .size))
       (ap₂ both (from-names (λ o. first (formOf o) (q .width)) (λ o. names (formOf o) (q .width) .first) (first-names (q .width)) o (q .op0))
       (from-names (λ o. second (formOf o) (q .width)) (λ o. names (formOf o) (q .width) .second) (second-names (q .width)) o (q .op1)))
+
+  by-rows : (b : Bool) → rowless f (q .width) ≡ b → allIn (pick b 0 (first f (q .width))) (pick b 0 (second f (q .width))) q ≡ both sized named
+  by-rows true e = ap (λ b. both b (both (hasBit 0 (operandNo (q .op0))) (hasBit 0 (operandNo (q .op1))))) (no-size (q .size))
+      ∙ sym (ap (both sized) (neither (names f (q .width) .first) (names f (q .width) .second) e (q .op0) (q .op1)) ∙ both-none sized)
+  by-rows false e = in-both
+
+  pub in-sets : {m n : ℕ} → (m ≡ ifRows f (q .width) (first f (q .width))) × (n ≡ ifRows f (q .width) (second f (q .width))) → allIn m n q ≡ both sized named
+  in-sets e = ap₂ (λ m n. allIn m n q) (e .0) (e .1) ∙ by-rows (rowless f (q .width)) refl

@@ -1,17 +1,25 @@
 // Made by scripts/tables/make-name-sets from encode_choice/specs/steps/{Choose,Forms}.antt:
 // the code of each name, the form of each opcode, and by width the sets of a form's names: those of operand 0 with the size, and
-// those of operand 1.
+// those of operand 1. A form without a row at a width has none.
 ghost use mathlib.Core.Path.{_≡_};
-ghost use Prim.Native.Nat.{_≤_};
+ghost use Prim.Native.Nat.{_≤_, _<_};
+ghost use lib.ListN.{length};
 ghost use Rattle.record.specs.declared.Width.the-variants.{None, B, W};
 ghost use Rattle.encode_choice.specs.steps.Choose.{codeOf};
-ghost use Rattle.encode_choice.specs.steps.Forms.{formOf};
-ghost use Rattle.encode_choice.specs.steps.NameSet.{first, second};
+ghost use Rattle.encode_choice.specs.steps.Forms.{formOf, forms, formAt};
+ghost use Rattle.encode_choice.specs.steps.NameSet.{first, second, ifRows};
 use record::Opcode;
 use record::Operand;
 
 pub enum Form {
-    Unused,
+    Bit,
+    FlagOrBit,
+    Shift,
+    Interrupt,
+    LoadControl,
+    Address,
+    Control,
+    RegisterList,
     General,
     SizedGeneral,
     GeneralOrImmediate,
@@ -20,31 +28,24 @@ pub enum Form {
     Sum,
     Move,
     Rotate,
-    Shift,
     Decimal,
     Block,
-    Bit,
-    FlagOrBit,
     Enter,
     Plain,
     Extend,
-    Interrupt,
     Jump,
     Indirect,
-    LoadControl,
     LoadContext,
     StoreContext,
     LoadFar,
     StoreFar,
-    Address,
     PushAddress,
     Half,
     HalfRegister,
     Multiply,
     Exchange,
     StoreControl,
-    Control,
-    RegisterList,
+    Unused,
 }
 
 pub struct Sets(pub u64, pub u64);
@@ -218,11 +219,60 @@ pub(crate) fn form_of(o: Opcode) -> Form
     }
 }
 
-pub(crate) fn at_b(f: Form) -> Sets
-    ensures { λ r. ⌜ (r .0 ≡ first f B) × (r .1 ≡ second f B) ⌝ }
+// For at_none alone: a match of numbers whose last arm takes the rest becomes a table of the other arms, one of names a table of all.
+fn number_of(f: Form) -> u8
+    ensures { λ r. ⌜ (formAt r ≡ f) × (r < length forms) ⌝ }
 {
     match f {
-        Form::Unused => Sets(0x200000000000000, 0x0),
+        Form::Bit => 0,
+        Form::FlagOrBit => 1,
+        Form::Shift => 2,
+        Form::Interrupt => 3,
+        Form::LoadControl => 4,
+        Form::Address => 5,
+        Form::Control => 6,
+        Form::RegisterList => 7,
+        Form::General => 8,
+        Form::SizedGeneral => 9,
+        Form::GeneralOrImmediate => 10,
+        Form::ImmediateAlone => 11,
+        Form::Arithmetic => 12,
+        Form::Sum => 13,
+        Form::Move => 14,
+        Form::Rotate => 15,
+        Form::Decimal => 16,
+        Form::Block => 17,
+        Form::Enter => 18,
+        Form::Plain => 19,
+        Form::Extend => 20,
+        Form::Jump => 21,
+        Form::Indirect => 22,
+        Form::LoadContext => 23,
+        Form::StoreContext => 24,
+        Form::LoadFar => 25,
+        Form::StoreFar => 26,
+        Form::PushAddress => 27,
+        Form::Half => 28,
+        Form::HalfRegister => 29,
+        Form::Multiply => 30,
+        Form::Exchange => 31,
+        Form::StoreControl => 32,
+        Form::Unused => 33,
+    }
+}
+
+pub(crate) fn at_b(f: Form) -> Sets
+    ensures { λ r. ⌜ (r .0 ≡ ifRows f B (first f B)) × (r .1 ≡ ifRows f B (second f B)) ⌝ }
+{
+    match f {
+        Form::Bit => Sets(0x0, 0x0),
+        Form::FlagOrBit => Sets(0x0, 0x0),
+        Form::Shift => Sets(0x400000000000080, 0x59DE0000C070),
+        Form::Interrupt => Sets(0x0, 0x0),
+        Form::LoadControl => Sets(0x0, 0x0),
+        Form::Address => Sets(0x0, 0x0),
+        Form::Control => Sets(0x0, 0x0),
+        Form::RegisterList => Sets(0x0, 0x0),
         Form::General => Sets(0x20059DE0000C0F0, 0x1),
         Form::SizedGeneral => Sets(0x40059DE0000C0F0, 0x1),
         Form::GeneralOrImmediate => Sets(0x40059DE0000C0F4, 0x1),
@@ -231,39 +281,39 @@ pub(crate) fn at_b(f: Form) -> Sets
         Form::Sum => Sets(0x40059DE0000C0F4, 0x4059DE0000C0F0),
         Form::Move => Sets(0x40059FE0000C0F4, 0x59DE0000C0F0),
         Form::Rotate => Sets(0x400000000000080, 0x59DE0000C070),
-        Form::Shift => Sets(0x400000000000080, 0x59DE0000C070),
         Form::Decimal => Sets(0x200000000000024, 0x10),
         Form::Block => Sets(0x400000000000001, 0x1),
-        Form::Bit => Sets(0x200000000000000, 0x1),
-        Form::FlagOrBit => Sets(0x200000000000000, 0x1),
         Form::Enter => Sets(0x200000000000004, 0x1),
-        Form::Plain => Sets(0x200000000000000, 0x1),
+        Form::Plain => Sets(0x0, 0x0),
         Form::Extend => Sets(0x20059DE00000150, 0x1),
-        Form::Interrupt => Sets(0x200000000000000, 0x1),
-        Form::Jump => Sets(0x200000000000000, 0x1),
-        Form::Indirect => Sets(0x200000000000000, 0x1),
-        Form::LoadControl => Sets(0x200000000000000, 0x1FC000000000000),
+        Form::Jump => Sets(0x0, 0x0),
+        Form::Indirect => Sets(0x0, 0x0),
         Form::LoadContext => Sets(0x200400000000000, 0x800000000000),
-        Form::StoreContext => Sets(0x200000000000000, 0x800000000000),
+        Form::StoreContext => Sets(0x0, 0x0),
         Form::LoadFar => Sets(0x200A20000000000, 0x59DE0000C0F0),
         Form::StoreFar => Sets(0x20059DE0000C0F0, 0xA20000000000),
-        Form::Address => Sets(0x200000000000000, 0xCF00),
-        Form::PushAddress => Sets(0x200000000000000, 0x1),
+        Form::PushAddress => Sets(0x0, 0x0),
         Form::Half => Sets(0x20059DE0000C0F0, 0x59DE0000C0F0),
         Form::HalfRegister => Sets(0x20000000000C010, 0xC010),
         Form::Multiply => Sets(0x20059DE0000C0F0, 0x59DE00004050),
         Form::Exchange => Sets(0x4000000000000F0, 0x59DE0000C0F0),
-        Form::StoreControl => Sets(0x200000000000000, 0x1FC000000000000),
-        Form::Control => Sets(0x200000000000000, 0x1),
-        Form::RegisterList => Sets(0x200000000000000, 0x1),
+        Form::StoreControl => Sets(0x0, 0x0),
+        Form::Unused => Sets(0x0, 0x0),
     }
 }
 
 pub(crate) fn at_w(f: Form) -> Sets
-    ensures { λ r. ⌜ (r .0 ≡ first f W) × (r .1 ≡ second f W) ⌝ }
+    ensures { λ r. ⌜ (r .0 ≡ ifRows f W (first f W)) × (r .1 ≡ ifRows f W (second f W)) ⌝ }
 {
     match f {
-        Form::Unused => Sets(0x200000000000000, 0x0),
+        Form::Bit => Sets(0x0, 0x0),
+        Form::FlagOrBit => Sets(0x200000000000001, 0x1),
+        Form::Shift => Sets(0x800000000000080, 0x59DE0000CD00),
+        Form::Interrupt => Sets(0x0, 0x0),
+        Form::LoadControl => Sets(0x0, 0x0),
+        Form::Address => Sets(0x0, 0x0),
+        Form::Control => Sets(0x0, 0x0),
+        Form::RegisterList => Sets(0x0, 0x0),
         Form::General => Sets(0x20059DE0000CF00, 0x1),
         Form::SizedGeneral => Sets(0x80059DE0000CF00, 0x1),
         Form::GeneralOrImmediate => Sets(0x80059DE0000CF08, 0x1),
@@ -272,71 +322,39 @@ pub(crate) fn at_w(f: Form) -> Sets
         Form::Sum => Sets(0x80059DE0000CF08, 0x4059DE0000CF00),
         Form::Move => Sets(0x80059FE0000CF08, 0x59DE0000CF00),
         Form::Rotate => Sets(0x800000000000080, 0x59DE0000CD00),
-        Form::Shift => Sets(0x800000000000080, 0x59DE0000CD00),
         Form::Decimal => Sets(0x200000000000208, 0x100),
         Form::Block => Sets(0x800000000000001, 0x1),
-        Form::Bit => Sets(0x200000000000000, 0x1),
-        Form::FlagOrBit => Sets(0x200000000000001, 0x1),
-        Form::Enter => Sets(0x200000000000000, 0x1),
+        Form::Enter => Sets(0x0, 0x0),
         Form::Plain => Sets(0x200000000000001, 0x1),
-        Form::Extend => Sets(0x200000000000000, 0x1),
-        Form::Interrupt => Sets(0x200000000000000, 0x1),
+        Form::Extend => Sets(0x0, 0x0),
         Form::Jump => Sets(0x201000000000000, 0x1),
         Form::Indirect => Sets(0x2005F1E00013000, 0x1),
-        Form::LoadControl => Sets(0x200000000000000, 0x1FC000000000000),
-        Form::LoadContext => Sets(0x200000000000000, 0x800000000000),
+        Form::LoadContext => Sets(0x0, 0x0),
         Form::StoreContext => Sets(0x200400000000000, 0x800000000000),
         Form::LoadFar => Sets(0x200A20000000000, 0x59DE0000CF00),
         Form::StoreFar => Sets(0x20059DE0000CF00, 0xA20000000000),
-        Form::Address => Sets(0x200000000000000, 0xCF00),
         Form::PushAddress => Sets(0x20041DE00000000, 0x1),
-        Form::Half => Sets(0x200000000000000, 0x59DE0000C0F0),
-        Form::HalfRegister => Sets(0x200000000000000, 0xC010),
+        Form::Half => Sets(0x0, 0x0),
+        Form::HalfRegister => Sets(0x0, 0x0),
         Form::Multiply => Sets(0x20059DE0000CF00, 0x59DE00004300),
         Form::Exchange => Sets(0x800000000000F00, 0x59DE0000CF00),
         Form::StoreControl => Sets(0x20059DE0000CF00, 0x1FC000000000000),
-        Form::Control => Sets(0x200000000000000, 0x1),
-        Form::RegisterList => Sets(0x200000000000000, 0x1),
+        Form::Unused => Sets(0x0, 0x0),
     }
 }
 
 pub(crate) fn at_none(f: Form) -> Sets
-    ensures { λ r. ⌜ (r .0 ≡ first f None) × (r .1 ≡ second f None) ⌝ }
+    ensures { λ r. ⌜ (r .0 ≡ ifRows f None (first f None)) × (r .1 ≡ ifRows f None (second f None)) ⌝ }
 {
-    match f {
-        Form::Unused => Sets(0x200000000000000, 0x0),
-        Form::General => Sets(0x200000000000000, 0x1),
-        Form::SizedGeneral => Sets(0x1000000000000000, 0x1),
-        Form::GeneralOrImmediate => Sets(0x1000000000000000, 0x1),
-        Form::ImmediateAlone => Sets(0x1000000000000000, 0x1),
-        Form::Arithmetic => Sets(0x1000000000000000, 0x0),
-        Form::Sum => Sets(0x1000000000000000, 0x40000000000000),
-        Form::Move => Sets(0x1000002000000000, 0x0),
-        Form::Rotate => Sets(0x1000000000000080, 0x0),
-        Form::Shift => Sets(0x1000000000000082, 0x3000),
-        Form::Decimal => Sets(0x200000000000000, 0x0),
-        Form::Block => Sets(0x1000000000000000, 0x1),
-        Form::Bit => Sets(0x2000001FFFE0000, 0x1),
-        Form::FlagOrBit => Sets(0x2000001FFFE0000, 0x1),
-        Form::Enter => Sets(0x200000000000000, 0x1),
-        Form::Plain => Sets(0x200000000000000, 0x1),
-        Form::Extend => Sets(0x200000000000000, 0x1),
-        Form::Interrupt => Sets(0x200000000000004, 0x1),
-        Form::Jump => Sets(0x200000000000000, 0x1),
-        Form::Indirect => Sets(0x200000000000000, 0x1),
-        Form::LoadControl => Sets(0x200000000000008, 0x1FC000000000000),
-        Form::LoadContext => Sets(0x200000000000000, 0x800000000000),
-        Form::StoreContext => Sets(0x200000000000000, 0x800000000000),
-        Form::LoadFar => Sets(0x200A20000000000, 0x0),
-        Form::StoreFar => Sets(0x200000000000000, 0xA20000000000),
-        Form::Address => Sets(0x20041DE00000000, 0xCF00),
-        Form::PushAddress => Sets(0x200000000000000, 0x1),
-        Form::Half => Sets(0x200000000000000, 0x59DE0000C0F0),
-        Form::HalfRegister => Sets(0x200000000000000, 0xC010),
-        Form::Multiply => Sets(0x200000000000000, 0x0),
-        Form::Exchange => Sets(0x1000000000000000, 0x0),
-        Form::StoreControl => Sets(0x200000000000000, 0x1FC000000000000),
-        Form::Control => Sets(0x3FC000000000000, 0x1),
-        Form::RegisterList => Sets(0x202000000000000, 0x1),
+    match number_of(f) {
+        0 => Sets(0x2000001FFFE0000, 0x1),
+        1 => Sets(0x2000001FFFE0000, 0x1),
+        2 => Sets(0x1000000000000082, 0x3000),
+        3 => Sets(0x200000000000004, 0x1),
+        4 => Sets(0x200000000000008, 0x1FC000000000000),
+        5 => Sets(0x20041DE00000000, 0xCF00),
+        6 => Sets(0x3FC000000000000, 0x1),
+        7 => Sets(0x202000000000000, 0x1),
+        _ => Sets(0x0, 0x0),
     }
 }

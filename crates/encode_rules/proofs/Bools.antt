@@ -22,6 +22,10 @@ pub both-last : (b : Bool) → both b true ≡ b
 both-last true = refl
 both-last false = refl
 
+pub both-none : (b : Bool) → both b false ≡ false
+both-none true = refl
+both-none false = refl
+
 pub picked : (b c : Bool) → T (pick b c true) → b ≡ true → T c
 picked true c t e = t
 picked false c t e = absurd (subst T (sym e) tt)

@@ -7,10 +7,15 @@ use mathlib.Core.List.{[]}
 use lib.IntN.{ℤ, pos, negsuc}
 use native.Mathlib.Omega.{arith}
 use native.Mathlib.Nat.{pow-suc, pow-le-pow-right, div-div-eq-div-mul, not-suc-le-zero}
-use lib.Dec.{ltb}
+use lib.Dec.{T, eqb, ltb, eqb→eq}
 use borrow.Author.Tests.{lt-ltb, le-ltb, ltb-true, ltb-false}
+use Rattle.laws.specs.Choice.{pick}
+use Rattle.record.specs.declared.Operand.{Operand}
+use Rattle.record.specs.Same.{sameName, among}
+use Rattle.record.specs.Signed.{isSigned}
+use Rattle.record.proofs.Arms.{every-operand}
 use Rattle.line.specs.Characters.{digit, hex}
-use Rattle.line.specs.Line.{signText, equals}
+use Rattle.line.specs.Line.{digitsOf, signText, equals}
 use Rattle.line.specs.steps.Packed.{pack}
 
 pub low : (d : ℕ) → d < 10 → 48 + d ≡ digit d
@@ -58,3 +63,8 @@ pub signed : (n v : ℕ) (z : ℤ) → 0 < n → 0x3D + 256 * (pack (signText z)
 signed zero v z h = absurd (not-suc-le-zero h)
 signed (suc n) v (pos m) h = refl
 signed (suc n) v (negsuc m) h = refl
+
+-- a signed number has two digits
+pub two-digits : (x : Operand) → isSigned x ≡ true → digitsOf x ≡ 2
+unfolding isSigned digitsOf among sameName
+two-digits x e = eqb→eq _ _ (rw e at (every-operand (λ x. pick (isSigned x) (eqb (digitsOf x) 2) true) tt x))

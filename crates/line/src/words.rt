@@ -119,17 +119,17 @@ fn distance(n: i64) -> u64
     n as u64
 }
 
-// `=`, the sign of a signed number, and the digits.
+// `=`, the sign of a signed number, and the digits, of which a signed one has two.
 fn number_word(x: Operand, v: u32) -> u64
     ensures { λ r. ⌜ r ≡ pack (numberText x (numberOf x v)) ⌝ }
 {
+    if signed::is_signed(x) {
+        let n = signed::number_of(x, v);
+        return 0x3D + 0x100 * (sign_of(n) + 0x100 * digits(2, distance(n)));
+    }
     let count = digits_of(x);
     if count == 0 {
         return 0;
-    }
-    if signed::is_signed(x) {
-        let n = signed::number_of(x, v);
-        return 0x3D + 0x100 * (sign_of(n) + 0x100 * digits(count, distance(n)));
     }
     0x3D + 0x100 * digits(count, v as u64)
 }

@@ -4,8 +4,8 @@ use Prim.Native.Nat.{ℕ}
 use mathlib.Core.Bool.{Bool, true, false}
 use mathlib.Core.List.{List, [], _∷_, _++_}
 use lib.Dec.{ltb, eqb}
-use lib.ListN.{take, drop}
-use Rattle.laws.specs.Choice.{pick, both}
+use lib.ListN.{take, drop, getD}
+use Rattle.laws.specs.Choice.{pick, both, either}
 use Rattle.record.specs.declared.Opcode.{Opcode}
 use Rattle.record.specs.declared.Opcode.the-variants as opcode
 use Rattle.record.specs.declared.Size.{Size}
@@ -201,7 +201,7 @@ far = Abs20 ∷ «Disp20_A0» ∷ «Deref_A1A0» ∷ []
 abbrev pub none : List Operand
 none = Nothing ∷ []
 
--- the names that a form's rows have: where the first list is empty, it has no row at that width
+-- the names that a form's rows have: where a list is empty, it has no row at that width
 abbrev pub names : Form → Width → Names
 names form.Unused w = go [] []
 names form.General w = go (general w) none
@@ -237,6 +237,27 @@ names form.Exchange w = go (take 4 (general w)) (general w)
 names form.StoreControl w = go (at w [] wordNames []) controlNames
 names form.Control w = go (at w [] [] controlNames) none
 names form.RegisterList w = go (at w [] [] (RegList ∷ [])) none
+
+abbrev pub isEmpty : List Operand → Bool
+isEmpty [] = true
+isEmpty (x ∷ xs) = false
+
+abbrev pub rowless : Form → Width → Bool
+rowless f w = either (isEmpty (names f w .first)) (isEmpty (names f w .second))
+
+-- the forms by their numbers: those that have rows at no width come first, so that a table of these alone finds them
+abbrev pub forms : List Form
+forms =
+    form.Bit ∷ form.FlagOrBit ∷ form.Shift ∷ form.Interrupt ∷ form.LoadControl ∷ form.Address ∷ form.Control ∷ form.RegisterList
+    ∷ form.General ∷ form.SizedGeneral ∷ form.GeneralOrImmediate ∷ form.ImmediateAlone ∷ form.Arithmetic ∷ form.Sum ∷ form.Move
+    ∷ form.Rotate ∷ form.Decimal ∷ form.Block ∷ form.Enter ∷ form.Plain ∷ form.Extend ∷ form.Jump ∷ form.Indirect ∷ form.LoadContext
+    ∷ form.StoreContext ∷ form.LoadFar ∷ form.StoreFar ∷ form.PushAddress ∷ form.Half ∷ form.HalfRegister ∷ form.Multiply
+    ∷ form.Exchange ∷ form.StoreControl ∷ form.Unused
+    ∷ []
+
+-- (past the end Unused, which has no row)
+abbrev pub formAt : ℕ → Form
+formAt n = getD forms n form.Unused
 
 -- how many numbers a name has that is part of the code at no width
 abbrev pub numberLimit : Operand → ℕ

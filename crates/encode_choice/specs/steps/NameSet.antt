@@ -4,7 +4,7 @@ use mathlib.Core.Bool.{Bool}
 use mathlib.Core.List.{List, [], _∷_}
 use lib.Dec.{eqb}
 use lib.ListN.{length}
-use Rattle.laws.specs.Choice.{both}
+use Rattle.laws.specs.Choice.{pick, both}
 use Rattle.record.specs.declared.Operand.{Operand}
 use Rattle.record.specs.declared.Size.{Size}
 use Rattle.record.specs.declared.Width.{Width}
@@ -12,7 +12,7 @@ use Rattle.record.specs.Names.{operands}
 use Rattle.record.specs.Numbers.{sizeNo, operandNo}
 use Rattle.encode_choice.specs.declared.Asked.{Asked}
 use Rattle.encode_choice.specs.declared.name_sets.Form.{Form}
-use Rattle.encode_choice.specs.steps.Forms.{names, sizeFor}
+use Rattle.encode_choice.specs.steps.Forms.{names, rowless, sizeFor}
 
 unfoldable pub bitSet : List Operand → ℕ
 bitSet [] = 0
@@ -28,6 +28,10 @@ first f w = 2 ^ sizeBit (sizeFor f w) + bitSet (names f w .first)
 
 abbrev pub second : Form → Width → ℕ
 second f w = bitSet (names f w .second)
+
+-- no bit where the form has no row
+abbrev pub ifRows : Form → Width → ℕ → ℕ
+ifRows f w n = pick (rowless f w) 0 n
 
 abbrev pub hasBit : ℕ → ℕ → Bool
 hasBit n i = eqb (n / 2 ^ i % 2) 1
