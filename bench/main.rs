@@ -28,6 +28,8 @@ const TWO_OPERANDS: [u8; 20] = [
     0xA0, 0xA1, 0xA8, 0xA9, 0xB0, 0xB1, 0xB8, 0xB9, 0xC0, 0xC1,
 ];
 const LISTS: [u8; 2] = [0xEC, 0xED];
+// Of the Rust's those that have two general operands too: what the others stand beside.
+const MULTIPLIED: [u8; 2] = [0x78, 0x79];
 
 const IMAGE_INSTRUCTIONS: usize = 4000;
 const RANDOM_PIECES: usize = 4;
@@ -273,10 +275,11 @@ fn workloads() -> Vec<Workload> {
     let image = image_workload("image", &RUST_FIRST_BYTES);
     let two = image_workload("two", &TWO_OPERANDS);
     let lists = image_workload("lists", &LISTS);
+    let mul = image_workload("mul", &MULTIPLIED);
     let by_first_byte = |work, firsts: &[u8]| firsts.iter().map(|first| only_first_byte(work, *first)).collect();
     let single: [Vec<Workload>; 3] =
         [by_first_byte(&image, &RUST_FIRST_BYTES), by_first_byte(&two, &TWO_OPERANDS), by_first_byte(&lists, &LISTS)];
-    [image, codes_workload(), two, lists, random_workload()].into_iter().chain(single.into_iter().flatten()).collect()
+    [image, codes_workload(), two, lists, mul, random_workload()].into_iter().chain(single.into_iter().flatten()).collect()
 }
 
 /// First bytes evenly, then an accepted code, then operand bytes at random.

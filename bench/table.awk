@@ -8,9 +8,9 @@ BEGIN {
     # What the port stands beside, in the order shown; and the limits, for the workloads that look like use.
     beside["insns decode"] = "rust_call rust_loop like empty_call"
     beside["insns encode"] = "decode empty_call"
-    beside["insns sweep"] = "rust_call rust_loop stopping before"
+    beside["insns sweep"] = "rust_call rust_loop like stopping before"
     beside["insns sweep_stopping"] = "before"
-    beside["insns length"] = "decode empty_call"
+    beside["insns length"] = "decode like empty_call"
     beside["ns decode"] = "rust_call rust_loop"
     beside["ns encode"] = "decode"
     beside["ns sweep"] = "rust_call rust_loop stopping"
@@ -25,21 +25,22 @@ BEGIN {
     # The small archive tells a length by decoding, so this stands beside its own decoding, and has no limit to the table of the fast one.
     beside["small length"] = "fast decode"
     delete limit["small length fast"]
-    limit["insns decode rust_call"] = limit["insns decode like"] = limit["bytes decode rust_3"] = 1
+    limit["insns decode rust_call"] = limit["bytes decode rust_3"] = 1
+    limit["insns decode like"] = limit["insns sweep like"] = limit["insns length like"] = 1
     limit["insns encode decode"] = 3
     limit["insns length decode"] = 0.25
     limit["insns sweep rust_call"] = 1.1
     limit["insns sweep stopping"] = limit["insns sweep before"] = limit["insns sweep_stopping before"] = 1.02
-    # Which workloads these two are for; every other limit is for "image", "codes" and sizes.
-    judged["insns decode like"] = "^(two|lists)$"
-    judged["insns length decode"] = "^(image|codes|two)$"
+    # Which workloads these are for; every other limit is for "image", "codes" and sizes.
+    judged["insns decode like"] = judged["insns sweep like"] = judged["insns length like"] = "^(two|lists)$"
+    judged["insns length decode"] = "^(image|codes|two|lists)$"
     most["length fast"] = 6500
     most["together small"] = 24000
     # Whose code is measured in bytes, in the order shown.
     split("rust_3 rust_z fast small", sized, " ")
     spelled["rust_call"] = "the Rust, called"
     spelled["rust_loop"] = "the Rust, in the loop"
-    spelled["like"] = "decoding 78 and 79"
+    spelled["like"] = "the same of 78 and 79"
     spelled["stopping"] = "the stopping sweep"
     spelled["before"] = "the sweep before request A1"
     spelled["fast"] = "the fast archive"
@@ -66,7 +67,7 @@ function loop_of(way) { return way == "decode" ? "decode_loop" : "empty_loop" }
 function stands_beside(kind, task, work, other) {
     if (other == "empty_call") return work == "image"
     if (other ~ /^rust_/) return (kind, task, work, other) in amount
-    if (other == "like") return !((kind, task, work, "rust_call") in amount)
+    if (other == "like") return !((kind, "decode", work, "rust_call") in amount) && work != "random"
     if (other == "stopping") return (kind, "sweep_stopping", work) in seen
     if (other == "before") return work in before
     return 1
@@ -77,7 +78,7 @@ function each(kind, task, work, way) {
     if (way == "fast") return each("insns", task, work, "rattle")
     if (way == "stopping") return each(kind, "sweep_stopping", work, "rattle")
     if (way == "before") return before[work]
-    if (way == "like") return (all(kind, task, "78", "rattle") + all(kind, task, "79", "rattle")) / (units[task, "78"] + units[task, "79"])
+    if (way == "like") return each(kind, task, "mul", "rattle")
     return all(kind, task, work, way) / units[task, work]
 }
 
@@ -160,6 +161,8 @@ END {
     print "limits"
     verdict("insns decode rust_call", "  decoding, to the Rust called")
     verdict("insns decode like", "  decoding what the Rust does not have, to decoding 78 and 79")
+    verdict("insns sweep like", "  the sweep of these, to that of 78 and 79")
+    verdict("insns length like", "  the length of these, to that of 78 and 79")
     verdict("insns encode decode", "  encoding, to decoding the same")
     verdict("insns sweep rust_call", "  the sweep, to the Rust called")
     verdict("insns sweep stopping", "  the sweep, to the stopping sweep")

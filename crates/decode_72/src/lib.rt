@@ -12,11 +12,11 @@ use readers::answer;
 use record::Answer;
 use record::refusal;
 
-// 72 and 73; from 80 to C1 the first two of each eight.
+// 72 and 73; behind 7E, to C1, the first two of each eight, of which 7F is none.
 fn is_two(a: u8) -> bool
     ensures { λ r. ⌜ r ≡ isTwo a ⌝ }
 {
-    if a < 0x80 {
+    if a < 0x7F {
         return a / 2 == 0x39;
     }
     if 0xC1 < a {
@@ -42,15 +42,17 @@ pub fn is_added(a: u8) -> bool
     is_list(a)
 }
 
-// One of these groups, or a first byte outside.
+// One of these groups, or a first byte outside. The lists are behind all pairs, and asked for there alone.
 pub fn decode_added(bs: &[u8], a: u8, b: u8) -> Answer
     ensures { λ r. ⌜ r ≡ pick (isAdded a) (runRow (rowsOf a (b / 16) (b % 16)) (now (bs .entry))) (refusal 4 1) ⌝ }
 {
     if is_two(a) {
         return two::decode_two(bs, a, b);
     }
-    if is_list(a) {
-        return list::decode_list(a, b);
+    if 0xC1 < a {
+        if is_list(a) {
+            return list::decode_list(a, b);
+        }
     }
     answer::refuse(refusal::FIRST_BYTE_OUTSIDE, 1)
 }

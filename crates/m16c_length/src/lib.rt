@@ -2,19 +2,25 @@
 mod words;
 
 ghost use mathlib.Core.Path.{_≡_};
-ghost use Prim.Native.Nat.{_<_};
 ghost use Rattle.rows.specs.Groups.{document01};
 ghost use Rattle.lengths.specs.Length.{LengthOf};
-ghost use Rattle.lengths.specs.steps.Table.{rows};
-ghost use Rattle.lengths.specs.steps.Entry.{entryAt};
-use lengths::Asked;
+ghost use Rattle.lengths.specs.steps.Entry.{entryOf};
+use record::refusal;
 
-fn entry_at(place: usize, second: usize) -> u32
-    requires { ⌜ (place < rows) × (second < 256) ⌝ }
-    ensures { λ r. ⌜ r ≡ entryAt place second ⌝ }
+// Of a first byte outside 0, which is no entry of the table.
+fn entry_of(first: u8, second: u8) -> u32
+    ensures { λ r. ⌜ r ≡ entryOf first second ⌝ }
 {
     let word = words::word_of(second);
-    ((word >> (5 * place)) % 32) as u32
+    ((word >> words::shift_of(first)) % 32) as u32
+}
+
+// What is refused without asking the table leaves no length.
+fn refuse(e: u8, length: &mut usize) -> u32
+    ensures { λ r. ⌜ (r ≡ e) × (now (length .exit) ≡ 0) ⌝ }
+{
+    *length = 0;
+    e as u32
 }
 
 // The length that every accepted instruction has that begins with the first two bytes; more bytes do not count. Returns 0 and leaves the
@@ -24,15 +30,14 @@ fn entry_at(place: usize, second: usize) -> u32
 pub extern "C" fn m16c_length(bytes: &[u8], length: &mut usize) -> u32
     ensures { λ r. ⌜ LengthOf document01 (now (bytes .entry)) r (now (length .exit)) ⌝ }
 {
-    match lengths::asked_of(bytes) {
-        Asked::Code(place, second) => {
-            let told = lengths::told(entry_at(place, second as usize));
-            *length = told.length;
-            told.refusal
-        }
-        Asked::Refused(e) => {
-            *length = 0;
-            e as u32
-        }
+    if bytes.len() < 2 {
+        return refuse(lengths::too_few(bytes), length);
     }
+    let entry = entry_of(bytes[0], bytes[1]);
+    if entry == 0 {
+        return refuse(refusal::FIRST_BYTE_OUTSIDE, length);
+    }
+    let told = lengths::told(entry);
+    *length = told.length;
+    told.refusal
 }

@@ -8,15 +8,15 @@ use Rattle.decode_72.proofs.is_two.Tie as tie
 
 first-pair : tie.Need-returns
 unfolding isTwo
-first-pair c = rw (lt-ltb _ 0x80 (c .if1 .taken)) refl
+first-pair c = rw (lt-ltb _ 0x7F (c .if1 .taken)) refl
 
 past : tie.Need-returns-2
 unfolding isTwo
-past c = rw (le-ltb _ 0x80 (c .before .if1 .left), lt-ltb 0xC1 _ (c .if2 .taken)) refl
+past c = rw (le-ltb _ 0x7F (c .before .if1 .left), lt-ltb 0xC1 _ (c .if2 .taken)) refl
 
 others : tie.Need-returns-3
 unfolding isTwo
-others c = rw (le-ltb _ 0x80 (c .before .if1 .left), le-ltb 0xC1 _ (c .if2 .left)) refl
+others c = rw (le-ltb _ 0x7F (c .before .if1 .left), le-ltb 0xC1 _ (c .if2 .left)) refl
 
 pub is-two-spec : {M : Type 1} → statement M
 is-two-spec = tie.close (tie.spec first-pair past others)

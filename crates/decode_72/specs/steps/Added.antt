@@ -8,9 +8,9 @@ use Rattle.laws.specs.Choice.{pick, either}
 use Rattle.record.specs.declared.Opcode.{Opcode}
 use Rattle.record.specs.declared.Opcode.the-variants.{NOP, MOV, TST, XOR, AND, OR, ADD, SUB, ADC, SBB, CMP, PUSHM, POPM}
 
--- 72 and 73; from 80 to C1 the first two of each eight
+-- 72 and 73; behind 7E, to C1, the first two of each eight
 unfoldable pub isTwo : ℕ → Bool
-isTwo a = pick (ltb a 0x80) (eqb (a / 2) 0x39) (pick (ltb 0xC1 a) false (ltb (a % 8) 2))
+isTwo a = pick (ltb a 0x7F) (eqb (a / 2) 0x39) (pick (ltb 0xC1 a) false (ltb (a % 8) 2))
 
 -- EC and ED
 unfoldable pub isList : ℕ → Bool

@@ -1,25 +1,25 @@
 -- `lengths::too_few` meets its contract.
 -- Assumes nothing.
+use mathlib.Core.Path.{sym, _∙_}
 use native.Mathlib.Omega.{arith}
 use denote.Ref.{now}
 use borrow.Author.Needs.{needs}
-use Rattle.lengths.proofs.Asking.{none, outside, one}
+use Rattle.lengths.proofs.Asking.{past-unknown, inside-known, of-no-byte, of-first}
 use Rattle.lengths.proofs.too_few.Statement.{statement}
 use Rattle.lengths.proofs.too_few.Tie as tie
 
-returns : tie.Need-returns
-returns c = none (now (c .before .before .args .bytes)) (omega (arith, c .if1 .taken))
+none : tie.Need-returns
+none c = of-no-byte (now (c .before .before .args .bytes)) (omega (arith, c .if1 .taken))
 
-returns-2 : tie.Need-returns-2
-returns-2 c =
+outside : tie.Need-returns-2
+outside c =
     let place = c .before in
-    outside (now (place .before .before .before .before .args .bytes)) (omega (arith, place .before .before .if1 .left)) (place .place-of .ensures) (c .if2 .taken)
+    of-first (now (place .before .before .before .before .args .bytes)) (omega (arith, place .before .before .if1 .left)) (past-unknown _ (sym (place .place-of .ensures) ∙ c .if2 .taken))
 
-returns-3 : tie.Need-returns-3
-returns-3 c =
+one : tie.Need-returns-3
+one c =
     let place = c .before in
-    let start = place .before .before .before .before in
-    one (now (start .args .bytes)) (omega (arith, start .pre, place .before .before .if1 .left)) (place .place-of .ensures) (c .if2 .left)
+    of-first (now (place .before .before .before .before .args .bytes)) (omega (arith, place .before .before .if1 .left)) (inside-known _ (λ p. c .if2 .left (place .place-of .ensures ∙ p)))
 
 pub too-few-spec : {M : Type 1} → statement M
-too-few-spec = tie.close (tie.spec returns (λ c. search needs) (λ c κs. search needs) returns-2 returns-3)
+too-few-spec = tie.close (tie.spec none (λ c. search needs) (λ c κs. search needs) outside one)

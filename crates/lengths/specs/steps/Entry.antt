@@ -6,8 +6,6 @@ use lib.Dec.{leb}
 use Rattle.laws.specs.Choice.{pick}
 use Rattle.rows.specs.Groups.{known}
 use Rattle.rows.specs.Lists.{oneOf}
-use Rattle.lengths.specs.declared.Asked.{Asked}
-use Rattle.lengths.specs.declared.Asked.the-variants.{Code, Refused}
 use Rattle.lengths.specs.steps.Table.{sharing, table}
 
 -- the first row that a first byte shares
@@ -36,8 +34,11 @@ refusalIn x = x / 8
 abbrev pub lengthIn : ℕ → ℕ
 lengthIn x = x % 8
 
--- what is asked of the table, if anything
-unfoldable pub askedOf : List ℕ → Asked
-askedOf [] = Refused 1
-askedOf (a ∷ []) = pick (known a) (Refused 1) (Refused 4)
-askedOf (a ∷ b ∷ bs) = pick (known a) (Code (place a) b) (Refused 4)
+-- what is refused where no byte follows the first, and where there is none
+unfoldable pub tooFew : List ℕ → ℕ
+tooFew [] = 1
+tooFew (a ∷ bs) = pick (known a) 1 4
+
+-- the entry of a code, 0 where the first byte is outside
+unfoldable pub entryOf : ℕ → ℕ → ℕ
+entryOf a b = pick (known a) (entryAt (place a) b) 0

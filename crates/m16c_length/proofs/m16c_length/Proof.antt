@@ -1,31 +1,46 @@
 -- `m16c_length::m16c_length` meets its contract.
 -- Assumes nothing.
+use Prim.Native.Nat.{ℕ, _<_}
 use mathlib.Core.Path.{sym, _∙_}
+use mathlib.Core.List.{List}
 use native.Mathlib.Omega.{arith}
+use lib.ListN.{length, getD}
 use denote.Ref.{now}
 use borrow.Author.Needs.{needs}
-use Rattle.lengths.proofs.Asking.{refused-right, code-right, entry-told}
+use Rattle.lengths.proofs.Asking.{of-known, zero-unknown, some-known, few-right, outside-right, entry-told}
 use Rattle.m16c_length.proofs.m16c_length.Statement.{statement}
 use Rattle.m16c_length.proofs.m16c_length.Tie as tie
 
-entry-at-requires : tie.Need-entry-at-requires
-entry-at-requires c κs =
-    let code = c .before .place .given in
-    let asked = c .before .before .before in
-    (code-right (now (asked .before .before .args .bytes)) (code .0 .0) (code .0 .1 .0) (sym (code .1) ∙ asked .asked-of .ensures) .below, omega arith)
+few : tie.Need-returns
+few c =
+    let counted = c .before .before in
+    rw (c .refuse .ensures .0 ∙ counted .too-few .ensures, c .refuse .ensures .1) (few-right (now (counted .before .before .before .args .bytes)) (omega (arith, counted .before .if1 .taken)))
 
-returns : tie.Need-returns
-returns c =
-    let code = c .before .before .before .place .given in
-    let asked = c .before .before .before .before .before in
-    entry-told (now (asked .before .before .args .bytes)) (code .0 .0) (code .0 .1 .0) (c .told .result .refusal) (c .told .result .length)
-    (sym (code .1) ∙ asked .asked-of .ensures) (omega arith) (c .before .entry-at .ensures) (c .told .ensures .0) (c .told .ensures .1)
+-- where the table is asked
+module _ (c : tie.After-entry-of) where
+  abbrev bytes : List ℕ
+  bytes = now (c .before .before .before .before .before .args .bytes)
 
-returns-2 : tie.Need-returns-2
-returns-2 c =
-    let asked = c .before .before .before in
-    refused-right (now (asked .before .before .args .bytes)) (c .before .e .given .0 .0) (sym (c .before .e .given .1) ∙ asked .asked-of .ensures)
+  two : 1 < length bytes
+  two = omega (arith, c .before .before .before .if1 .left)
+
+  second : getD bytes 1 0 < 256
+  second = omega (arith, c .before .shared-slice-known3 .given 1)
+
+outside : tie.Need-returns-2
+outside c =
+    let told = c .before .before in
+    let asked = told .before in
+    rw (c .refuse2 .ensures .0, c .refuse2 .ensures .1) (outside-right (bytes asked) (two asked) (zero-unknown _ _ (second asked) (sym (asked .entry-of .ensures) ∙ told .if2 .taken)))
+
+told : tie.Need-returns-3
+told c =
+    let asked = c .before .before in
+    let known = some-known _ _ (second asked) (λ z. c .before .if2 .left (asked .entry-of .ensures ∙ z)) in
+    entry-told (bytes asked) (two asked) known (second asked) (asked .entry-of .ensures ∙ of-known _ _ known) (c .told .ensures .0) (c .told .ensures .1)
 
 pub m16c-length-spec : {M : Type 1} → statement M
-m16c-length-spec = tie.close (tie.spec (λ c κs. search needs) (λ c. search needs) (λ c. search needs) entry-at-requires (λ c κs. search needs)
-    (λ c. search needs) (λ c. search needs) returns returns-2)
+m16c-length-spec =
+    tie.close
+    (tie.spec (λ c κs. search needs) (λ c κs. search needs) few (λ c. search needs) (λ c. search needs) (λ c κs. search needs) (λ c κs. search needs) outside
+    (λ c κs. search needs) told)
