@@ -1,7 +1,7 @@
 -- Two functions agree at every number below a bound: their values, listed and computed, are one list.
 -- Assumes nothing.
 use Prim.Native.Nat.{ℕ, zero, suc, _<_}
-use mathlib.Core.Path.{_≡_, refl, ap}
+use mathlib.Core.Path.{_≡_, refl, sym, ap, _∙_}
 use mathlib.Core.Bool.{Bool, true, false}
 use mathlib.Core.List.{List, [], _∷_}
 use lib.Dec.{eqb}
@@ -48,3 +48,11 @@ none-among (k ∷ ks) n r = rw (ne-eqb n k (r .1)) (none-among ks n (r .0))
 pub agree-past : {A : Type 0} (ks : List ℕ) (d : A) (f g : ℕ → A) (m : ℕ)
     → listed (λ k. pick (among ks k) d (f k)) m ≡ listed (λ k. pick (among ks k) d (g k)) m → (n : ℕ) → n < m → Rest ks n → f n ≡ g n
 agree-past ks d f g m e n h r = rw (none-among ks n r) at (agree (λ k. pick (among ks k) d (f k)) (λ k. pick (among ks k) d (g k)) m e n h)
+
+-- A match with a number in each arm: an arm returns what the definition has for its key, and one number is left for the last.
+module _ (f : ℕ → ℕ) where
+  pub at-key : {a k w : ℕ} → w ≡ f k → a ≡ k → w ≡ f a
+  at-key e h = e ∙ ap f (sym h)
+
+  pub at-last : {a w : ℕ} (ks : List ℕ) → listed (λ k. pick (among ks k) w (f k)) 256 ≡ listed (λ k. pick (among ks k) w w) 256 → a < 256 → Rest ks a → w ≡ f a
+  at-last {a} {w} ks e l r = sym (agree-past ks w f (λ k. w) 256 e a l r)

@@ -8,7 +8,6 @@ use lib.ListN.{length}
 use lib.Dec.{T, eqb, ltb, ltb→lt}
 use borrow.Author.Tests.{eqb-true}
 use Rattle.laws.specs.Choice.{both, either}
-use Rattle.laws.proofs.Agree.{agree}
 use Rattle.laws.proofs.Choice.{both-left, both-right}
 use Rattle.rows.specs.All.{everyFirst}
 use Rattle.rows.specs.Groups.{groups, known}
@@ -16,12 +15,6 @@ use Rattle.rows.specs.Lists.{oneOf}
 use Rattle.rows.proofs.All.{every-first}
 use Rattle.lengths.specs.steps.Table.{rows, sharing}
 use Rattle.lengths.specs.steps.Entry.{placeIn, place}
-use Rattle.lengths.specs.steps.Found.{found}
-
--- as place_of finds it
-pub place-found : (a : ℕ) → a < 256 → place a ≡ found a
-unfolding place
-place-found = agree place found 256 refl
 
 all-below : T (everyFirst (λ a. ltb (place a) rows) groups)
 unfolding groups place

@@ -1,29 +1,19 @@
--- The words hold the entries of the table: an arm of a match is a word or a bit of it, and each five bits of a word an entry.
+-- The words hold the entries of the table: each five bits of a word are an entry.
 -- Assumes nothing.
 use Prim.Native.Nat.{ℕ, _+_, _*_, _^_, _<_}
 use mathlib.Core.Path.{_≡_, refl, sym, ap, _∙_}
 use mathlib.Core.Bool.{Bool, true, false}
-use mathlib.Core.List.{List}
 use native.Mathlib.Omega.{arith}
 use lib.Dec.{T, eqb, ltb, eqb→eq, ltb→lt}
 use Rattle.laws.specs.Choice.{pick}
 use Rattle.laws.specs.Range.{upto}
 use Rattle.laws.proofs.Choice.{pick-holds}
 use Rattle.laws.proofs.Range.{upto-at}
-use Rattle.laws.proofs.Agree.{listed, among, Rest, agree-past}
 use Rattle.rows.specs.Groups.{known}
 use Rattle.lengths.specs.steps.Table.{rows, table}
 use Rattle.lengths.specs.steps.Entry.{place, character, entryAt, entryOf}
 use Rattle.lengths.proofs.Place.{below}
 use Rattle.m16c_length.specs.steps.Packed.{wordAt, fieldAt, shiftOf}
-
--- an arm of a match, of any definition; one number is left for the last arm
-module _ (f : ℕ → ℕ) where
-  pub told : {a k w : ℕ} → w ≡ f k → a ≡ k → w ≡ f a
-  told e h = e ∙ ap f (sym h)
-
-  pub told-last : {a w : ℕ} (ks : List ℕ) → listed (λ k. pick (among ks k) w (f k)) 256 ≡ listed (λ k. pick (among ks k) w w) 256 → a < 256 → Rest ks a → w ≡ f a
-  told-last {a} {w} ks e l r = sym (agree-past ks w f (λ k. w) 256 e a l r)
 
 abbrev same : ℕ → ℕ → Bool
 same p b = eqb (entryAt p b) (fieldAt (wordAt b) (5 * p))
