@@ -1,10 +1,10 @@
 -- The words hold the entries of the table: each five bits of a word are an entry.
 -- Assumes nothing.
-use Prim.Native.Nat.{ℕ, _+_, _*_, _^_, _<_}
-use mathlib.Core.Path.{_≡_, refl, sym, ap, _∙_}
+use Prim.Native.Nat.{ℕ, _*_, _<_}
+use mathlib.Core.Path.{_≡_, refl, sym}
 use mathlib.Core.Bool.{Bool, true, false}
 use native.Mathlib.Omega.{arith}
-use lib.Dec.{T, eqb, ltb, eqb→eq, ltb→lt}
+use lib.Dec.{T, eqb, eqb→eq}
 use Rattle.laws.specs.Choice.{pick}
 use Rattle.laws.specs.Range.{upto}
 use Rattle.laws.proofs.Choice.{pick-holds}

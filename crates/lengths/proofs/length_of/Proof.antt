@@ -9,7 +9,6 @@ use lib.ListN.{length, getD}
 use denote.Ref.{now}
 use borrow.Author.Needs.{needs}
 use Rattle.rows.specs.Groups.{known}
-use Rattle.lengths.specs.steps.Table.{rows}
 use Rattle.lengths.specs.steps.Entry.{place, valueOf, character}
 use Rattle.lengths.proofs.Place.{below}
 use Rattle.lengths.proofs.Asking.{past-unknown, inside-known, few-right, outside-right, entry-told}
