@@ -17,13 +17,13 @@ use Rattle.record.proofs.Arms.{every-operand}
 use Rattle.encode_choice.specs.declared.name_sets.Form.{Form}
 use Rattle.encode_choice.specs.steps.Choose.{place, codeOf}
 use Rattle.encode_choice.specs.steps.Forms.{formOf, rowless, forms, formAt}
-use Rattle.encode_choice.specs.steps.NameSet.{first, second, ifRows}
+use Rattle.encode_choice.specs.steps.NameSet.{first, second, ifRows, AreSets}
 use Rattle.encode_rules.proofs.Bools.{so}
 
 pub form-told : {o p : Opcode} → o ≡ p → formOf p ≡ formOf o
 form-told e = ap formOf (sym e)
 
-pub sets-told : (w : Width) {f g : Form} → f ≡ g → (ifRows g w (first g w) ≡ ifRows f w (first f w)) × (ifRows g w (second g w) ≡ ifRows f w (second f w))
+pub sets-told : (w : Width) {f g : Form} → f ≡ g → AreSets (ifRows g w (first g w)) (ifRows g w (second g w)) f w
 sets-told w e = (ap (λ f. ifRows f w (first f w)) (sym e), ap (λ f. ifRows f w (second f w)) (sym e))
 
 -- a form by its number
@@ -32,7 +32,7 @@ by-number e h = sym e ∙ ap formAt h
 
 -- every form that is none of these has no row
 pub no-rows : (w : Width) (ks : List ℕ) → listed (λ k. pick (among ks k) true (rowless (formAt k) w)) (length forms) ≡ listed (λ k. pick (among ks k) true true) (length forms)
-    → {f : Form} {n : ℕ} → (formAt n ≡ f) × (n < length forms) → Rest ks n → (0 ≡ ifRows f w (first f w)) × (0 ≡ ifRows f w (second f w))
+    → {f : Form} {n : ℕ} → (formAt n ≡ f) × (n < length forms) → Rest ks n → AreSets 0 0 f w
 no-rows w ks t {f} {n} (e, l) r =
     let z = ap (λ f. rowless f w) (sym e) ∙ agree-past ks true (λ k. rowless (formAt k) w) (λ k. true) (length forms) t n l r in
     (ap (λ b. pick b 0 (first f w)) (sym z), ap (λ b. pick b 0 (second f w)) (sym z))

@@ -22,7 +22,7 @@ use Rattle.record.proofs.Arms.{bit, bits-apart, every-opcode, every-operand}
 use Rattle.encode_choice.specs.declared.Asked.{Asked}
 use Rattle.encode_choice.specs.declared.name_sets.Form.{Form}
 use Rattle.encode_choice.specs.steps.Forms.{formOf, names, isEmpty, rowless, sizeFor}
-use Rattle.encode_choice.specs.steps.NameSet.{bitSet, first, second, ifRows, sizeBit, hasBit, allIn}
+use Rattle.encode_choice.specs.steps.NameSet.{bitSet, first, second, AreSets, sizeBit, hasBit, allIn}
 use Rattle.encode_rules.proofs.Bools.{so, both-none}
 
 -- a set that agrees with a test at every name
@@ -108,5 +108,5 @@ module _ (o : Opcode) (q : Asked) where
       ∙ sym (ap (both sized) (neither (names f (q .width) .first) (names f (q .width) .second) e (q .op0) (q .op1)) ∙ both-none sized)
   by-rows false e = in-both
 
-  pub in-sets : {m n : ℕ} → (m ≡ ifRows f (q .width) (first f (q .width))) × (n ≡ ifRows f (q .width) (second f (q .width))) → allIn m n q ≡ both sized named
+  pub in-sets : {m n : ℕ} → AreSets m n f (q .width) → allIn m n q ≡ both sized named
   in-sets e = ap₂ (λ m n. allIn m n q) (e .0) (e .1) ∙ by-rows (rowless f (q .width)) refl

@@ -7,7 +7,7 @@ ghost use lib.ListN.{length};
 ghost use Rattle.record.specs.declared.Width.the-variants.{None, B, W};
 ghost use Rattle.encode_choice.specs.steps.Choose.{codeOf};
 ghost use Rattle.encode_choice.specs.steps.Forms.{formOf, forms, formAt};
-ghost use Rattle.encode_choice.specs.steps.NameSet.{first, second, ifRows};
+ghost use Rattle.encode_choice.specs.steps.NameSet.{AreSets};
 use record::Opcode;
 use record::Operand;
 
@@ -262,7 +262,7 @@ fn number_of(f: Form) -> u8
 }
 
 pub(crate) fn at_b(f: Form) -> Sets
-    ensures { λ r. ⌜ (r .0 ≡ ifRows f B (first f B)) × (r .1 ≡ ifRows f B (second f B)) ⌝ }
+    ensures { λ r. ⌜ AreSets (r .0) (r .1) f B ⌝ }
 {
     match f {
         Form::Bit => Sets(0x0, 0x0),
@@ -303,7 +303,7 @@ pub(crate) fn at_b(f: Form) -> Sets
 }
 
 pub(crate) fn at_w(f: Form) -> Sets
-    ensures { λ r. ⌜ (r .0 ≡ ifRows f W (first f W)) × (r .1 ≡ ifRows f W (second f W)) ⌝ }
+    ensures { λ r. ⌜ AreSets (r .0) (r .1) f W ⌝ }
 {
     match f {
         Form::Bit => Sets(0x0, 0x0),
@@ -344,7 +344,7 @@ pub(crate) fn at_w(f: Form) -> Sets
 }
 
 pub(crate) fn at_none(f: Form) -> Sets
-    ensures { λ r. ⌜ (r .0 ≡ ifRows f None (first f None)) × (r .1 ≡ ifRows f None (second f None)) ⌝ }
+    ensures { λ r. ⌜ AreSets (r .0) (r .1) f None ⌝ }
 {
     match number_of(f) {
         0 => Sets(0x2000001FFFE0000, 0x1),

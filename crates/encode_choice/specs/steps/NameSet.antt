@@ -1,5 +1,6 @@
 -- A set of names as a number: bit n is the name of number n.
 use Prim.Native.Nat.{ℕ, _+_, _^_, _/_, _%_}
+use mathlib.Core.Path.{_≡_}
 use mathlib.Core.Bool.{Bool}
 use mathlib.Core.List.{List, [], _∷_}
 use lib.Dec.{eqb}
@@ -32,6 +33,10 @@ second f w = bitSet (names f w .second)
 -- no bit where the form has no row
 abbrev pub ifRows : Form → Width → ℕ → ℕ
 ifRows f w n = pick (rowless f w) 0 n
+
+-- the sets of a form at a width
+abbrev pub AreSets : ℕ → ℕ → Form → Width → Type 0
+AreSets m n f w = (m ≡ ifRows f w (first f w)) × (n ≡ ifRows f w (second f w))
 
 abbrev pub hasBit : ℕ → ℕ → Bool
 hasBit n i = eqb (n / 2 ^ i % 2) 1

@@ -7,9 +7,8 @@ use lib.Dec.{ltb}
 use borrow.Author.Needs.{needs}
 use Rattle.laws.specs.Choice.{both}
 use Rattle.record.specs.declared.Width.{Width}
-use Rattle.encode_choice.specs.declared.name_sets.Form.{Form}
 use Rattle.encode_choice.specs.steps.Forms.{at, formOf, numberLimit, goesWith}
-use Rattle.encode_choice.specs.steps.NameSet.{first, second, ifRows, allIn}
+use Rattle.encode_choice.specs.steps.NameSet.{AreSets, allIn}
 use Rattle.encode_rules.proofs.Bools.{both-last}
 use Rattle.encode_choice.proofs.SetBits.{sized, named, in-sets}
 use Rattle.encode_choice.proofs.forms.goes_with.Statement.{statement}
@@ -23,19 +22,16 @@ joined : (a b c d : Bool) → both a b ≡ d → both d c ≡ both a (both b c)
 joined true b c d e = ap (λ d. both d c) (sym e)
 joined false b c d e = ap (λ d. both d c) (sym e)
 
-abbrev Sets : ℕ → ℕ → Form → Width → Type 0
-Sets m n f w = (m ≡ ifRows f w (first f w)) × (n ≡ ifRows f w (second f w))
-
 -- at the width that an arm is told
-told : (t : tie.After-form-of) {w : Width} {m n : ℕ} {b : Bool} → t .before .args .q .width ≡ w → Sets m n (t .form-of .result) w
+told : (t : tie.After-form-of) {w : Width} {m n : ℕ} {b : Bool} → t .before .args .q .width ≡ w → AreSets m n (t .form-of .result) w
     → b ≡ both (allIn m n (t .before .args .q)) (numbered (t .before) w) → b ≡ goesWith (formOf (t .before .args .o)) (t .before .args .q)
 unfolding goesWith
 told t {w} {m} {n} e h g =
     let x = t .before in
     let o = x .args .o in
     let q = x .args .q in
-    let at-form = subst (λ f. Sets m n f w) (t .form-of .ensures) h in
-    let sets = subst (λ w. Sets m n (formOf o) w) (sym e) at-form in
+    let at-form = subst (λ f. AreSets m n f w) (t .form-of .ensures) h in
+    let sets = subst (λ w. AreSets m n (formOf o) w) (sym e) at-form in
     g ∙ ap (λ w. both (allIn m n q) (numbered x w)) (sym e) ∙ joined (sized o q) (named o q) (numbered x (q .width)) (allIn m n q) (sym (in-sets o q sets))
 
 returns : tie.Need-returns
