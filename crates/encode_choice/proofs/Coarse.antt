@@ -22,7 +22,7 @@ use Rattle.record.proofs.Apart.{opcodes-apart}
 use Rattle.rows.specs.Row.{disp, imm, imm20, Read, num, cond, stop, Row, Table}
 use Rattle.rows.specs.Codes.{condOf}
 use Rattle.rows.specs.Run.{twentyBits}
-use Rattle.encode_rules.specs.steps.Search.{means, condByte, disps, imms, conds, nth, live, aim, wideFor, dispFor, firstFor}
+use Rattle.encode_rules.specs.steps.Search.{means, condByte, disps, imms, conds, nth, live, aim}
 use Rattle.encode_rules.specs.steps.Can.{exact, fits, named, can}
 use Rattle.encode_rules.specs.steps.Direct.{Choice, code, nothing, rank, there, able, Beats}
 use Rattle.encode_choice.specs.steps.Coarse.{classOf, rep, whole, wholeKey, wholeRow, roughly, coarse, sized, alone, regular}
@@ -33,6 +33,7 @@ use Rattle.encode_rules.proofs.Fill.{cond-in}
 use Rattle.encode_rules.proofs.Order.{first-true}
 use Rattle.encode_rules.proofs.Plain.{live-is}
 use Rattle.encode_rules.proofs.Can.{Parts, parts}
+use Rattle.encode_choice.proofs.Fields.{of-wide, of-disp, of-first}
 
 -- the same answers to what is asked of a number
 pub record Like (u v : ℕ) : Type 0 where
@@ -110,26 +111,6 @@ module _ (k : Key) where
   oneth : Like (coarse k .number1) (k .number1)
   oneth = like-roughly (wholeKey k) (k .number1)
 
-  wide-like : (p : Field) → Like (wideFor p (coarse k)) (wideFor p k)
-  wide-like wide = zeroth
-  wide-like nowhere = oneth
-  wide-like short = oneth
-  wide-like early = oneth
-
-  disp-like : (p q : Field) (b : Bool) → Like (dispFor p q b (coarse k)) (dispFor p q b k)
-  disp-like short short true = zeroth
-  disp-like short short false = oneth
-  disp-like short nowhere b = zeroth
-  disp-like short wide b = zeroth
-  disp-like short early b = zeroth
-  disp-like nowhere q b = oneth
-  disp-like wide q b = oneth
-  disp-like early q b = oneth
-
-  first-like : (b : Bool) → Like (firstFor b (coarse k)) (firstFor b k)
-  first-like true = oneth
-  first-like false = zeroth
-
 -- the row's own number is 0, or the key's numbers were left as they are
 exact-like : (p : Field) (n m v : ℕ) (b : Bool) → (b ≡ false → m ≡ 0) → exact p n m (roughly b v) ≡ exact p n m v
 exact-like p n m v true f = refl
@@ -178,9 +159,9 @@ can-coarse w k h e =
     fits-like (w .reads) (aim (w .face) (coarse k)) (aim (w .face) k) (h .sized)
     (record {
       opcode = refl;
-      number = wide-like k (fieldOf (w .face .op0));
-      disp = disp-like k (fieldOf (w .face .op0)) (fieldOf (w .face .op1)) (sameName (w .face .op0) «Disp8_SP»);
-      first = first-like k (sameName (w .face .op0) «Disp8_SP»);
+      number = of-wide Like (coarse k) k (zeroth k) (oneth k) (fieldOf (w .face .op0));
+      disp = of-disp Like (coarse k) k (zeroth k) (oneth k) (fieldOf (w .face .op0)) (fieldOf (w .face .op1)) (sameName (w .face .op0) «Disp8_SP»);
+      first = of-first Like (coarse k) k (zeroth k) (oneth k) (sameName (w .face .op0) «Disp8_SP»);
     }) in
     λ i.
     both (live w)

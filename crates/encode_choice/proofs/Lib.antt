@@ -2,6 +2,7 @@ pub mod Among
 pub mod PairNames
 pub mod Pairs
 pub mod PairTests
+pub mod Fields
 pub mod Coarse
 pub mod Tested
 pub mod Formed

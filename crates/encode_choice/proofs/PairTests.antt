@@ -20,8 +20,6 @@ use Rattle.record.specs.declared.Width.the-variants.{None, B, W}
 use Rattle.record.specs.declared.Operand.{Operand}
 use Rattle.record.specs.declared.Operand.the-variants.{Nothing, «Disp8_SP»}
 use Rattle.record.specs.declared.Key.{Key}
-use Rattle.record.specs.declared.fields.Field.{Field}
-use Rattle.record.specs.declared.fields.Field.the-variants.{Nowhere as nowhere, Wide as wide, Short as short, Early as early}
 use Rattle.record.specs.Numbers.{opcodeNo, sizeNo}
 use Rattle.record.specs.Same.{sameName, among, fieldOf, baseOf}
 use Rattle.rows.specs.Codes.{nameG, sizeG}
@@ -29,7 +27,7 @@ use Rattle.rows.specs.Row.{Row, num, disp}
 use Rattle.rows.specs.Rows.{row, sizeOf}
 use Rattle.rows.specs.Pairs.{two}
 use Rattle.rows.specs.Groups.{document01}
-use Rattle.encode_rules.specs.steps.Search.{disps, imms, conds, aim, dispFor, firstFor, firstb}
+use Rattle.encode_rules.specs.steps.Search.{disps, imms, conds, aim, firstb}
 use Rattle.encode_rules.specs.steps.Can.{fits, can}
 use Rattle.encode_rules.specs.steps.Direct.{nothing, rank}
 use Rattle.encode_choice.specs.declared.Asked.{Asked}
@@ -37,6 +35,7 @@ use Rattle.encode_choice.specs.steps.Forms.{formOf, at, general, goesWit
 use Rattle.encode_choice.specs.steps.Coarse.{rep, whole, keyAt, span, beatsb, ifb, good, rowTest, codeTest}
 use Rattle.encode_choice.specs.steps.Choose.{asked, narrow, place, codeOf, word, twice, chooseBy, chooseNamed, choose}
 use Rattle.encode_rules.proofs.Bools.{so, both-so}
+use Rattle.encode_choice.proofs.Fields.{of-disp, of-first}
 use Rattle.encode_choice.proofs.Pairs.{even, opcode, Sided, rows, dropping, chosen, size-is, taken, row-at, is-there}
 
 -- a key of the row at h and n, by the classes of its numbers
@@ -89,25 +88,14 @@ fits-same (suc a) (suc b) s t e f = ap₂ (λ u v. both (ltb u (256 ^ suc a)) (b
 
 -- whether a row can encode a key does not hang on their opcode, if they have one
 module _ (o p : Opcode) (w : Width) (h n i j : ℕ) where
-  disp-same : (f g : Field) (b : Bool) → dispFor f g b (twoKey o w h n i j) ≡ dispFor f g b (twoKey p w h n i j)
-  disp-same short short true = refl
-  disp-same short short false = refl
-  disp-same short nowhere b = refl
-  disp-same short wide b = refl
-  disp-same short early b = refl
-  disp-same nowhere g b = refl
-  disp-same wide g b = refl
-  disp-same early g b = refl
-
-  first-same : (b : Bool) → firstFor b (twoKey o w h n i j) ≡ firstFor b (twoKey p w h n i j)
-  first-same true = refl
-  first-same false = refl
-
   can-any : (c d : ℕ) → can (two o w c d) (twoKey o w h n i j) ≡ can (two p w c d) (twoKey p w h n i j)
   unfolding two row can aim conds imms
   can-any c d =
-      let s = fits-same (sizeG c) (sizeG d) (aim (two o w c d .face) (twoKey o w h n i j)) (aim (two p w c d .face) (twoKey p w h n i j))
-      (disp-same (fieldOf (nameG w c)) (fieldOf (nameG w d)) (sameName (nameG w c) «Disp8_SP»)) (first-same (sameName (nameG w c) «Disp8_SP»)) in
+      let k = twoKey o w h n i j in
+      let l = twoKey p w h n i j in
+      let at-sp = sameName (nameG w c) «Disp8_SP» in
+      let s = fits-same (sizeG c) (sizeG d) (aim (two o w c d .face) k) (aim (two p w c d .face) l)
+      (of-disp _≡_ k l refl refl (fieldOf (nameG w c)) (fieldOf (nameG w d)) at-sp) (of-first _≡_ k l refl refl at-sp) in
       rw (eq-eqb (opcodeNo o) (opcodeNo o) refl, eq-eqb (opcodeNo p) (opcodeNo p) refl, s) refl
 
 -- so it is tested with one opcode for all, which no pair has
