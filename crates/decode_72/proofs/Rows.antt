@@ -2,12 +2,12 @@
 -- Assumes nothing.
 use Prim.Native.Nat.{ℕ, _%_, _<_}
 use mathlib.Core.Path.{_≡_, refl}
-use mathlib.Core.Bool.{true, false}
+use mathlib.Core.Bool.{true}
 use lib.Dec.{eqb}
 use Rattle.laws.specs.Choice.{pick}
 use Rattle.laws.proofs.Agree.{agree}
 use Rattle.rows.specs.Row.{InvalidOpcode, Row}
-use Rattle.rows.specs.Rows.{row, refused}
+use Rattle.rows.specs.Rows.{refused}
 use Rattle.rows.specs.Pairs.{two}
 use Rattle.rows.specs.RegisterList.{list}
 use Rattle.rows.specs.Groups.{rowsOf}

@@ -9,7 +9,6 @@ use Rattle.record.specs.Signed.{isSigned, numberOf}
 use Rattle.rows.specs.Groups.{known, rowsOf}
 use Rattle.rows.specs.Codes.{condOf}
 use Rattle.rows.specs.Run.{decodeBy, runRow, run, readDisp, readInto}
-use Rattle.sweep.specs.declared.Rule.{Rule}
 use Rattle.sweep.specs.declared.Rule.the-variants.{GoOn, Stop}
 use Rattle.sweep.specs.Walk.{stepAt, go, walk}
 use Rattle.laws.specs.Text.{spelled}

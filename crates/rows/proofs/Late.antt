@@ -2,7 +2,7 @@
 -- (`Spaced`): the next place is accepted or takes one byte; or there are six bytes, it took four, and the place behind the next one does so.
 -- Assumes nothing.
 use Prim.Native.Nat.{ℕ, _+_, _≤_, _<_}
-use mathlib.Core.Path.{_≡_, refl, ap, subst}
+use mathlib.Core.Path.{_≡_, refl, ap}
 use mathlib.Core.Logic.{_⊎_, inl, inr}
 use mathlib.Core.Bool.{Bool, true, false, not}
 use mathlib.Core.List.{List, [], _∷_}
@@ -20,11 +20,11 @@ use Rattle.rows.specs.Row.{Row, Table}
 use Rattle.rows.specs.Groups.{groups, known, rowsOf, document01}
 use Rattle.rows.specs.Fate.{reach, smooth}
 use Rattle.rows.specs.All.{everyFirst}
-use Rattle.rows.specs.Run.{refusal, run, runRow, begun, decodeBy}
+use Rattle.rows.specs.Run.{refusal, runRow, begun, decodeBy}
 use Rattle.rows.proofs.All.{every-first}
 use Rattle.rows.proofs.Along.{Events, along}
 use Rattle.rows.proofs.Refusals.{outside}
-use Rattle.rows.proofs.Depth.{Bounded, within, row-bounded, want-or-test}
+use Rattle.rows.proofs.Depth.{within, row-bounded, want-or-test}
 
 -- a smooth row accepts if it has its bytes
 accepting : (bs : List ℕ) → Events bs (λ rs n x. T (smooth rs) → n + reach rs ≤ length bs → x .refusal ≡ 0)

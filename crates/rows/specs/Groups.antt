@@ -1,7 +1,7 @@
 -- Which first bytes are decoded, and the rows of each: those of document 01, then those of request A7.
 use Prim.Native.Nat.{ℕ, _+_, _/_, _%_}
 use mathlib.Core.Bool.{Bool, true, false}
-use mathlib.Core.List.{List, [], _∷_, _++_}
+use mathlib.Core.List.{List, [], _∷_}
 use lib.Dec.{eqb}
 use Rattle.laws.specs.Choice.{pick}
 use Rattle.record.specs.declared.Opcode.the-variants.{PUSHM, POPM}

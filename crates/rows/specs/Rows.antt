@@ -18,7 +18,7 @@ use Rattle.record.specs.declared.Operand.{Operand}
 use Rattle.record.specs.declared.Operand.the-variants.{Nothing, Imm4, Imm8, Imm16, R0L, R0H, R1H, R0, R1, R2R0, R3R1, «Disp8_SP», «Disp20_A0», «Deref_A1A0», Abs16, Abs20, Disp8, SP}
 use Rattle.laws.specs.Choice.{pick}
 use Rattle.rows.specs.Row.{disp, imm, Refusal, InvalidOpcode, InvalidOperand, Read, num, cond, stop, face, Row}
-use Rattle.rows.specs.Codes.{noPair, numJ, nameG, nameT, nameP, nameJ, nameK, nameI, G, Bit, I, L, J, K, refuse}
+use Rattle.rows.specs.Codes.{noPair, nameG, nameT, nameP, nameJ, nameK, nameI, G, Bit, I, L, J, K, refuse}
 
 -- the size that a width gives an opcode that carries one
 abbrev pub sizeOf : Width → Size
