@@ -39,6 +39,9 @@ none-zero : T (upto (λ p. upto (λ b. ltb 0 (entryAt p b)) 256) rows)
 unfolding upto table character
 none-zero = tt
 
+each-some : (p b : ℕ) → p < rows → b < 256 → 0 < entryAt p b
+each-some p b h l = ltb→lt 0 _ (upto-at (λ b. ltb 0 (entryAt p b)) 256 (upto-at (λ p. upto (λ b. ltb 0 (entryAt p b)) 256) rows none-zero p h) b l)
+
 pub of-known : (a b : ℕ) → known a ≡ true → entryOf a b ≡ entryAt (place a) b
 unfolding entryOf
 of-known a b e = ap (λ k. pick k (entryAt (place a) b) 0) e
@@ -49,7 +52,7 @@ module _ (a b : ℕ) (l : b < 256) where
   zero-unknown = by (known a) refl
     where
       by : (x : Bool) → known a ≡ x → pick x (entryAt (place a) b) 0 ≡ 0 → x ≡ false
-      by true e z = absurd (omega (arith, z, ltb→lt 0 (entryAt (place a) b) (upto-at (λ b. ltb 0 (entryAt (place a) b)) 256 (upto-at (λ p. upto (λ b. ltb 0 (entryAt p b)) 256) rows none-zero (place a) (below a e)) b l)))
+      by true e z = absurd (omega (arith, z, each-some (place a) b (below a e) l))
       by false e z = refl
 
   pub some-known : (entryOf a b ≡ 0 → ⊥) → known a ≡ true
