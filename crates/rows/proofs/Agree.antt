@@ -28,17 +28,17 @@ use Rattle.rows.specs.Lists.{listedIn, starredRow, exchangedCode, starre
 use Rattle.rows.proofs.All.{every-code}
 
 -- the two parts of agreement, as tests
-sized : ℕ → ℕ → Row → Meaning → Bool
+unfoldable pub sized : ℕ → ℕ → Row → Meaning → Bool
 sized a b r m = sizeFits a b (r .face .size) (r .face .width) (m .suffix)
 
-said : Row → Meaning → Bool
+unfoldable pub said : Row → Meaning → Bool
 said r m = eqb (packed (meaning (meaningOf r (m .suffix)))) (packed (meaning (recorded m)))
 
 -- their numbers have room in the packing, so that equal numbers are equal meanings
-roomy : Row → Meaning → Bool
+unfoldable pub roomy : Row → Meaning → Bool
 roomy r m = both (eqb (over (meaning (meaningOf r (m .suffix)))) 0) (eqb (over (meaning (recorded m))) 0)
 
-same : ℕ → ℕ → Row → Meaning → Bool
+unfoldable pub same : ℕ → ℕ → Row → Meaning → Bool
 same a b r m = both (both (said r m) (roomy r m)) (sized a b r m)
 
 -- of an accepted and unmarked code
@@ -70,7 +70,7 @@ all-right = tt
 
 -- what a passed test says of a code
 module _ (a b : ℕ) (r : Row) (m : Meaning) where
-  same-agrees : T (same a b r m) → Agrees a b r m
+  pub same-agrees : T (same a b r m) → Agrees a b r m
   unfolding same said roomy sized
   same-agrees t =
       let whole = both-left (both (said r m) (roomy r m)) (sized a b r m) t in

@@ -47,7 +47,8 @@ coveredb a b z i =
     (either (withinb (z .short) i)
     (either (withinb (z .early) i) (conditionb a b (z .length) i))))
 
-plainSpans : ℕ → ℕ → Spans → Bool
+unfoldable pub plainSpans : ℕ → ℕ → Spans → Bool
+unfolding plainSource coveredb upto
 plainSpans a b z = both (plainSource (z .wide)) (both (plainPart (z .short)) (both (plainPart (z .early)) (upto (coveredb a b z) (z .length))))
 
 plainAt : ℕ → ℕ → Bool
@@ -121,7 +122,7 @@ pub record Plain (a b : ℕ) (z : Spans) : Type 0 where
   pub early : T (plainPart (z .early))
   pub covered : (i : ℕ) → i < z .length → T (coveredb a b z i)
 
-passed : (a b : ℕ) (z : Spans) → T (plainSpans a b z) → Plain a b z
+pub passed : (a b : ℕ) (z : Spans) → T (plainSpans a b z) → Plain a b z
 unfolding plainSpans
 passed a b z t =
     let x = both-right (plainSource (z .wide)) _ t in

@@ -25,11 +25,18 @@ use Rattle.rows.specs.Run.{bytes}
 abbrev pub numberAt : List ℕ → ℕ → ℕ → ℕ
 numberAt bs p n = pick (eqb n 3) (bytes bs p n % 0x100000) (bytes bs p n)
 
--- a number that is part of the code. Imm4 keeps the raw code: 0 to 7 are 1 to 8, 8 to F are -1 to -8
-abbrev pub inCode : Operand → ℕ → Number
-inCode a v = pick (sameName a Imm4) (pick (ltb v 8) (plus (v + 1)) (minus (v - 7))) (plus v)
+-- a number that is part of the code. Imm4 of a shift keeps the raw code: 0 to 7 are 1 to 8, 8 to F are -1 to -8
+abbrev pub shiftCount : ℕ → Number
+shiftCount v = pick (ltb v 8) (plus (v + 1)) (minus (v - 7))
 
--- an operand of the record and its number are the manual's; no operand of a record is C, PC or a flag
+-- another number is signed in 32 bits (request A9, whose ADD #-8,SP is FFFFFFF8; before it such numbers were all taken as unsigned)
+abbrev pub signed32 : ℕ → Number
+signed32 v = pick (ltb v 0x80000000) (plus v) (minus (0x100000000 - v))
+
+abbrev pub inCode : Operand → ℕ → Number
+inCode a v = pick (sameName a Imm4) (shiftCount v) (signed32 v)
+
+-- an operand of the record and its number are the manual's; no operand of a record is C or PC. A flag is Imm4 with the flag's number (request A9; before it no operand was one)
 abbrev pub Shows : List ℕ → Spot → Operand → ℕ → Type 0
 Shows bs nothing o v = o ≡ Nothing
 Shows bs (plain a) o v = o ≡ a
@@ -37,7 +44,7 @@ Shows bs (behind a p n) o v = (o ≡ a) × (v ≡ numberAt bs p n)
 Shows bs (within a k) o v = (o ≡ a) × (inCode a v ≡ k)
 Shows bs carry o v = ⊥
 Shows bs counter o v = ⊥
-Shows bs (flag k) o v = ⊥
+Shows bs (flag k) o v = (o ≡ Imm4) × (v ≡ k)
 
 -- the record has no operand for C
 abbrev pub held : Spot → Spot

@@ -1,0 +1,4 @@
+pub mod Each
+pub mod Changes
+pub mod Passing
+pub mod Agreement
