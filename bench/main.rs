@@ -12,6 +12,7 @@ use std::process::ExitCode;
 use std::time::Instant;
 
 use c::{m16c_decode, m16c_encode, m16c_length, m16c_line, m16c_operand_number, m16c_sweep, m16c_sweep_stopping};
+use c::{m16c_decode_manual, m16c_encode_manual, m16c_line_manual, m16c_sweep_manual, m16c_sweep_manual_stopping};
 use c::{Decode, Encode, Length, Line, OperandNumber, Sweep};
 use c::{LONGEST_IMAGE, LONGEST_INSTRUCTION, LONGEST_LINE};
 use peer_call::{at_each, nothing_decoded, nothing_encoded, nothing_told, rust_decode, Record, NUMBERS, RUST_NUMBERS};
@@ -50,11 +51,56 @@ extern "C" {
     fn syscall(number: i64, first: i64, ...) -> i64;
 }
 
+/// By what the bytes are read.
+#[derive(Debug, Clone, Copy, PartialEq)]
+enum Reading {
+    Document01,
+    Manual,
+}
+
+use Reading::{Document01, Manual};
+
+const BY_DOCUMENT: &[Reading] = &[Document01];
+const BY_BOTH: &[Reading] = &[Document01, Manual];
+const BY_MANUAL: &[Reading] = &[Manual];
+
+/// The functions of a reading, for all but measuring: there they are called by their names.
+struct Functions {
+    decode: Decode,
+    encode: Encode,
+    line: Line,
+    sweep: Sweep,
+    sweep_stopping: Sweep,
+}
+
+impl Reading {
+    fn functions(self) -> Functions {
+        match self {
+            Document01 => Functions {
+                decode: m16c_decode,
+                encode: m16c_encode,
+                line: m16c_line,
+                sweep: m16c_sweep,
+                sweep_stopping: m16c_sweep_stopping,
+            },
+            Manual => Functions {
+                decode: m16c_decode_manual,
+                encode: m16c_encode_manual,
+                line: m16c_line_manual,
+                sweep: m16c_sweep_manual,
+                sweep_stopping: m16c_sweep_manual_stopping,
+            },
+        }
+    }
+}
+
 /// Code, the places in it where the measured work is done, and the records that stand there.
 struct Workload {
     name: String,
     image: Vec<u8>,
     places: Vec<u32>,
+    /// The readings that have these places; the records are by the first.
+    readings: &'static [Reading],
     records: Vec<Record>,
     /// Whether decoding refuses at some of the places.
     refuses: bool,
@@ -86,6 +132,7 @@ struct Way {
 
 struct Task {
     name: &'static str,
+    reading: Reading,
     /// Which workloads it is measured on, and at which of their records.
     works: fn(&Workload) -> bool,
     takes: fn(&Record) -> bool,
@@ -98,6 +145,7 @@ struct Task {
 const TASKS: &[Task] = &[
     Task {
         name: "decode",
+        reading: Document01,
         works: is_accepted,
         takes: |_| true,
         ways: &[
@@ -112,6 +160,7 @@ const TASKS: &[Task] = &[
     },
     Task {
         name: "encode",
+        reading: Document01,
         works: is_accepted,
         takes: |record| record[MARKED] == 0,
         ways: &[
@@ -125,6 +174,7 @@ const TASKS: &[Task] = &[
     },
     Task {
         name: "sweep",
+        reading: Document01,
         works: is_whole,
         takes: |_| true,
         ways: &[
@@ -138,6 +188,7 @@ const TASKS: &[Task] = &[
     },
     Task {
         name: "sweep_stopping",
+        reading: Document01,
         works: |work| is_whole(work) && is_accepted(work),
         takes: |_| true,
         ways: &[
@@ -148,6 +199,7 @@ const TASKS: &[Task] = &[
     },
     Task {
         name: "line",
+        reading: Document01,
         works: is_accepted,
         takes: |_| true,
         ways: &[
@@ -158,6 +210,7 @@ const TASKS: &[Task] = &[
     },
     Task {
         name: "length",
+        reading: Document01,
         works: is_accepted,
         takes: |_| true,
         ways: &[
@@ -171,11 +224,67 @@ const TASKS: &[Task] = &[
     },
     Task {
         name: "operand_number",
+        reading: Document01,
         works: is_accepted,
         takes: |_| true,
         ways: &[
             Way { name: "empty_loop", run: |work, out| at_each(work.records.iter(), out, |_, _| ()) },
             Way { name: "rattle", run: |work, out| ask_each(m16c_operand_number, work, out) },
+        ],
+        rust_ways: &[],
+    },
+    Task {
+        name: "decode_manual",
+        reading: Manual,
+        works: is_accepted,
+        takes: |_| true,
+        ways: &[
+            Way { name: "empty_loop", run: |work, out| at_each(places(work), &mut out.record, |_, _| ()) },
+            Way { name: "rattle", run: |work, out| decode_each(m16c_decode_manual, work, out) },
+        ],
+        rust_ways: &[],
+    },
+    Task {
+        name: "encode_manual",
+        reading: Manual,
+        works: is_accepted,
+        takes: |record| record[MARKED] == 0,
+        ways: &[
+            Way { name: "empty_loop", run: |work, out| at_each(work.records.iter(), out, |_, _| ()) },
+            Way { name: "rattle", run: |work, out| encode_each(m16c_encode_manual, work, out) },
+        ],
+        rust_ways: &[],
+    },
+    Task {
+        name: "sweep_manual",
+        reading: Manual,
+        works: is_whole,
+        takes: |_| true,
+        ways: &[
+            Way { name: "empty_loop", run: |work, out| at_each(work.pieces.iter(), out, |_, _| ()) },
+            Way { name: "rattle", run: |work, out| sweep_each(m16c_sweep_manual, work, out) },
+        ],
+        rust_ways: &[],
+    },
+    Task {
+        name: "sweep_manual_stopping",
+        reading: Manual,
+        works: |work| is_whole(work) && is_accepted(work),
+        takes: |_| true,
+        ways: &[
+            Way { name: "empty_loop", run: |work, out| at_each(work.pieces.iter(), out, |_, _| ()) },
+            Way { name: "rattle", run: |work, out| sweep_each(m16c_sweep_manual_stopping, work, out) },
+        ],
+        rust_ways: &[],
+    },
+    Task {
+        name: "line_manual",
+        reading: Manual,
+        works: is_accepted,
+        takes: |_| true,
+        ways: &[
+            Way { name: "empty_loop", run: |work, out| at_each(places(work), out, |_, _| ()) },
+            Way { name: "rattle", run: |work, out| list_each(m16c_line_manual, work, out) },
         ],
         rust_ways: &[],
     },
@@ -260,8 +369,8 @@ fn main() -> ExitCode {
         return ExitCode::FAILURE;
     }
     for task in TASKS {
-        for work in workloads.iter().filter(|work| (task.works)(work)) {
-            let work = only(work, task.takes);
+        for work in workloads.iter().filter(|work| work.readings.contains(&task.reading) && (task.works)(work)) {
+            let work = only(work, task);
             let rust_ways = if work.in_rust { task.rust_ways } else { &[] };
             for way in task.ways.iter().chain(rust_ways) {
                 measure(&format!("{}.{}.{}", task.name, work.name, way.name), way, &work);
@@ -272,32 +381,54 @@ fn main() -> ExitCode {
 }
 
 fn workloads() -> Vec<Workload> {
-    let image = image_workload("image", &RUST_FIRST_BYTES);
-    let two = image_workload("two", &TWO_OPERANDS);
-    let lists = image_workload("lists", &LISTS);
-    let mul = image_workload("mul", &MULTIPLIED);
+    let image = image_workload("image", &RUST_FIRST_BYTES, length_by_document, BY_DOCUMENT);
+    let two = image_workload("two", &TWO_OPERANDS, length_by_document, BY_BOTH);
+    let lists = image_workload("lists", &LISTS, length_by_document, BY_BOTH);
+    let mul = image_workload("mul", &MULTIPLIED, length_by_document, BY_DOCUMENT);
+    let both = image_workload("both", &RUST_FIRST_BYTES, length_by_both, BY_BOTH);
+    let manual = image_workload("manual", &RUST_FIRST_BYTES, length_by_manual, BY_MANUAL);
     let by_first_byte = |work, firsts: &[u8]| firsts.iter().map(|first| only_first_byte(work, *first)).collect();
     let single: [Vec<Workload>; 3] =
         [by_first_byte(&image, &RUST_FIRST_BYTES), by_first_byte(&two, &TWO_OPERANDS), by_first_byte(&lists, &LISTS)];
-    [image, codes_workload(), two, lists, mul, random_workload()].into_iter().chain(single.into_iter().flatten()).collect()
+    let shared = [image, codes_workload(), two, lists, mul, both, manual, random_workload()];
+    shared.into_iter().chain(single.into_iter().flatten()).collect()
+}
+
+/// The length of the instruction that bytes begin with; none where they are refused.
+type LengthOf = fn(&[u8]) -> Option<usize>;
+
+fn length_by_document(bytes: &[u8]) -> Option<usize> {
+    let answer = oracle::answer(bytes);
+    (answer.refusal == oracle::ACCEPTED).then_some(answer.taken)
+}
+
+fn length_by_manual(bytes: &[u8]) -> Option<usize> {
+    let (refusal, record) = called(m16c_decode_manual, bytes, 0);
+    (refusal == 0).then_some(record[LENGTH] as usize)
+}
+
+/// Only where both readings accept, and take the same bytes.
+fn length_by_both(bytes: &[u8]) -> Option<usize> {
+    length_by_document(bytes).filter(|length| length_by_manual(bytes) == Some(*length))
 }
 
 /// First bytes evenly, then an accepted code, then operand bytes at random.
-fn image_workload(name: &str, first_bytes: &[u8]) -> Workload {
-    let codes: Vec<Vec<u8>> = first_bytes.iter().map(|first| accepted_seconds(*first)).collect();
+fn image_workload(name: &str, first_bytes: &[u8], length: LengthOf, readings: &'static [Reading]) -> Workload {
+    let codes: Vec<Vec<u8>> = first_bytes.iter().map(|first| accepted_seconds(*first, length)).collect();
     let mut random = Random(SEED);
     let pick = |random: &mut Random| {
         let row = random.below(first_bytes.len());
         (first_bytes[row], codes[row][random.below(codes[row].len())])
     };
     let picked: Vec<(u8, u8)> = (0..IMAGE_INSTRUCTIONS).map(|_| pick(&mut random)).collect();
-    assemble(name, &picked, &mut random)
+    assemble(name, &picked, &mut random, length, readings)
 }
 
 fn codes_workload() -> Workload {
-    let with_seconds = |first: u8| accepted_seconds(first).into_iter().map(move |second| (first, second));
-    let every: Vec<(u8, u8)> = RUST_FIRST_BYTES.into_iter().flat_map(with_seconds).collect();
-    assemble("codes", &every, &mut Random(SEED))
+    let seconds =
+        |first: u8| accepted_seconds(first, length_by_document).into_iter().map(move |second| (first, second));
+    let every: Vec<(u8, u8)> = RUST_FIRST_BYTES.into_iter().flat_map(seconds).collect();
+    assemble("codes", &every, &mut Random(SEED), length_by_document, BY_DOCUMENT)
 }
 
 /// Bytes at random, most of them refused, for sweeps that go on; the places are those at which they decode. A byte that would begin an
@@ -313,58 +444,91 @@ fn random_workload() -> Workload {
     let mut piece = || -> Vec<u8> { (0..LONGEST_IMAGE).map(|_| byte()).collect() };
     let pieces: Vec<Vec<u8>> = (0..RANDOM_PIECES).map(|_| piece()).collect();
     let begins = (0..).step_by(LONGEST_IMAGE);
-    let in_image = |(begin, piece): (usize, &Vec<u8>)| visited(piece).into_iter().map(move |visit| begin + visit.place);
+    let in_image = |(begin, piece): (usize, &Vec<u8>)| {
+        visited(Document01, piece).into_iter().map(move |visit| begin + visit.place)
+    };
     let places = begins.zip(&pieces).flat_map(in_image).map(|place| place as u32).collect();
-    workload("random".to_string(), pieces.concat(), places, pieces)
+    workload("random".to_string(), pieces.concat(), places, pieces, BY_DOCUMENT)
 }
 
 fn is_of_port_alone(first: u8) -> bool {
     TWO_OPERANDS.contains(&first) || LISTS.contains(&first)
 }
 
-/// A place at which a sweep decodes, the oracle's refusal there and the bytes that it took.
+/// A place at which a sweep decodes, the refusal there and the bytes that it took.
 #[derive(Clone, Copy)]
 struct Visit {
     place: usize,
-    refusal: u8,
+    refusal: u32,
     taken: usize,
 }
 
 /// The places of a piece that a sweep visits if it goes on.
-fn visited(piece: &[u8]) -> Vec<Visit> {
+fn visited(reading: Reading, piece: &[u8]) -> Vec<Visit> {
     let (mut visited, mut place) = (Vec::new(), 0);
     while place < piece.len() {
-        let oracle::Answer { refusal, taken, .. } = oracle::answer(&piece[place..]);
+        let (refusal, taken) = answered(reading, &piece[place..]);
         visited.push(Visit { place, refusal, taken });
-        place += if refusal == oracle::ACCEPTED { taken } else { 1 };
+        place += if refusal == 0 { taken } else { 1 };
     }
     visited
+}
+
+/// A refusal and the bytes taken: the oracle's, which has document 01's reading alone, or those of decoding by the manual.
+fn answered(reading: Reading, bytes: &[u8]) -> (u32, usize) {
+    match reading {
+        Document01 => {
+            let answer = oracle::answer(bytes);
+            (answer.refusal.into(), answer.taken)
+        }
+        Manual => {
+            let (refusal, record) = called(m16c_decode_manual, bytes, 0);
+            (refusal, record[TAKEN] as usize)
+        }
+    }
 }
 
 fn only_first_byte(work: &Workload, first: u8) -> Workload {
     let starts_here = |place: &u32| work.image[*place as usize] == first;
     let places = work.places.iter().copied().filter(starts_here).collect();
-    workload(format!("{first:02X}"), work.image.clone(), places, Vec::new())
+    workload(format!("{first:02X}"), work.image.clone(), places, Vec::new(), work.readings)
 }
 
-/// The same image, at the places whose records are wanted.
-fn only(work: &Workload, wanted: fn(&Record) -> bool) -> Workload {
-    let places = work.places.iter().zip(&work.records).filter(|(_, record)| wanted(record)).map(|(place, _)| *place);
-    workload(work.name.clone(), work.image.clone(), places.collect(), work.pieces.clone())
+/// The same image, at the places whose records a task takes, with the records of the task's reading. Where there are two readings the
+/// first says which are taken, so that both have the same places.
+fn only(work: &Workload, task: &Task) -> Workload {
+    let taken = work.places.iter().zip(&work.records).filter(|(_, record)| (task.takes)(record));
+    let places = taken.map(|(place, _)| *place).collect();
+    let readings = if task.reading == Manual { BY_MANUAL } else { BY_DOCUMENT };
+    workload(work.name.clone(), work.image.clone(), places, work.pieces.clone(), readings)
 }
 
-fn workload(name: String, image: Vec<u8>, places: Vec<u32>, pieces: Vec<Vec<u8>>) -> Workload {
-    let answers = places.iter().map(|place| called(m16c_decode, &image, *place));
+fn workload(
+    name: String,
+    image: Vec<u8>,
+    places: Vec<u32>,
+    pieces: Vec<Vec<u8>>,
+    readings: &'static [Reading],
+) -> Workload {
+    let decode = readings[0].functions().decode;
+    let answers = places.iter().map(|place| called(decode, &image, *place));
     let (refusals, records): (Vec<u32>, Vec<Record>) = answers.unzip();
     let refuses = refusals.iter().any(|refusal| *refusal != 0);
-    let in_rust = !places.iter().any(|place| is_of_port_alone(image[*place as usize]));
-    Workload { name, image, places, records, refuses, in_rust, pieces }
+    // The Rust has document 01's reading.
+    let in_rust = readings[0] == Document01 && !places.iter().any(|place| is_of_port_alone(image[*place as usize]));
+    Workload { name, image, places, readings, records, refuses, in_rust, pieces }
 }
 
-fn assemble(name: &str, codes: &[(u8, u8)], random: &mut Random) -> Workload {
+fn assemble(
+    name: &str,
+    codes: &[(u8, u8)],
+    random: &mut Random,
+    length: LengthOf,
+    readings: &'static [Reading],
+) -> Workload {
     let (mut image, mut places, mut pieces) = (Vec::new(), Vec::new(), vec![Vec::new()]);
     for (first, second) in codes {
-        let instruction = accepted_instruction(*first, *second, random);
+        let instruction = accepted_instruction(*first, *second, random, length);
         places.push(image.len() as u32);
         image.extend(&instruction);
         if pieces[pieces.len() - 1].len() + instruction.len() > LONGEST_IMAGE {
@@ -372,27 +536,26 @@ fn assemble(name: &str, codes: &[(u8, u8)], random: &mut Random) -> Workload {
         }
         pieces.last_mut().expect("there is a piece").extend(&instruction);
     }
-    workload(name.to_string(), image, places, pieces)
+    workload(name.to_string(), image, places, pieces, readings)
 }
 
 // A tail of zeros is accepted wherever any tail is: it holds a condition that 7E takes.
-fn accepted_seconds(first: u8) -> Vec<u8> {
+fn accepted_seconds(first: u8, length: LengthOf) -> Vec<u8> {
     let accepted = |second: &u8| {
         let mut bytes = [0; LONGEST_INSTRUCTION];
         bytes[..2].copy_from_slice(&[first, *second]);
-        oracle::answer(&bytes).refusal == oracle::ACCEPTED
+        length(&bytes).is_some()
     };
     (0..=255).filter(accepted).collect()
 }
 
 // Tries tails until one is accepted: most condition bytes are not.
-fn accepted_instruction(first: u8, second: u8, random: &mut Random) -> Vec<u8> {
+fn accepted_instruction(first: u8, second: u8, random: &mut Random, length: LengthOf) -> Vec<u8> {
     loop {
         let mut bytes = vec![first, second];
         bytes.extend((2..LONGEST_INSTRUCTION).map(|_| random.byte()));
-        let answer = oracle::answer(&bytes);
-        if answer.refusal == oracle::ACCEPTED {
-            bytes.truncate(answer.taken);
+        if let Some(length) = length(&bytes) {
+            bytes.truncate(length);
             return bytes;
         }
     }
@@ -419,15 +582,64 @@ impl Random {
 
 // A way that did less would be measured for less.
 fn check_same_work(work: &Workload) -> Result<(), String> {
-    let check = if work.in_rust { check_decoding } else { check_accepted };
-    work.places.iter().try_for_each(|place| check(work, *place))?;
-    if is_accepted(work) {
-        work.places.iter().try_for_each(|place| check_line(work, *place))?;
-        work.places.iter().zip(&work.records).try_for_each(|(place, record)| check_length(work, *place, record))?;
-        work.records.iter().try_for_each(|record| check_encoding(record))?;
-        work.records.iter().try_for_each(|record| check_number(record))?;
+    work.readings.iter().try_for_each(|reading| check_reading(work, *reading))?;
+    if work.readings == BY_BOTH {
+        work.places.iter().try_for_each(|place| check_both(work, *place))?;
     }
-    work.pieces.iter().try_for_each(|piece| check_sweeping(work, piece))
+    if work.readings == BY_MANUAL {
+        check_other_reading(work)?;
+    }
+    Ok(())
+}
+
+fn check_reading(work: &Workload, reading: Reading) -> Result<(), String> {
+    let places = || work.places.iter().copied();
+    if work.in_rust && reading == Document01 {
+        places().try_for_each(|place| check_decoding(work, place))?;
+    } else {
+        places().try_for_each(|place| check_accepted(work, reading, place))?;
+    }
+    if is_accepted(work) {
+        for place in places() {
+            let (_, record) = called(reading.functions().decode, &work.image, place);
+            check_line(work, reading, place, &record)?;
+            check_encoding(reading, &record)?;
+            check_number(&record)?;
+            // A length from two bytes is document 01's.
+            if reading == Document01 {
+                check_length(work, place, &record)?;
+            }
+        }
+    }
+    work.pieces.iter().try_for_each(|piece| check_sweeping(work, reading, piece))
+}
+
+/// Where document 01 marks nothing the readings are the same: each number, the line, and no more bytes than by the other encoder, which
+/// has fewer rows to choose from.
+fn check_both(work: &Workload, place: u32) -> Result<(), String> {
+    let [document, manual] = [Document01, Manual].map(|reading| called(reading.functions().decode, &work.image, place));
+    if document.1[MARKED] != 0 {
+        return Ok(());
+    }
+    let [line, line_manual] = [Document01, Manual].map(|reading| listed(reading, &work.image, place));
+    let [encoded, encoded_manual] = [Document01, Manual].map(|reading| encoded(reading, &document.1));
+    if document != manual || line != line_manual || encoded_manual.1 > encoded.1 {
+        return Err(format!("different readings at place {place} of workload {}\n{document:?}\n{manual:?}", work.name));
+    }
+    Ok(())
+}
+
+/// A reading by the manual that was document 01's would pass for it elsewhere: here at least one place in ten has an unmarked record that
+/// document 01 does not give.
+fn check_other_reading(work: &Workload) -> Result<(), String> {
+    let is_other = |(place, record): &(&u32, &Record)| {
+        record[MARKED] == 0 && called(m16c_decode, &work.image, **place) != (0, **record)
+    };
+    let others = work.places.iter().zip(&work.records).filter(is_other).count();
+    if others * 10 < work.places.len() {
+        return Err(format!("workload {} has only {others} places that document 01 reads otherwise", work.name));
+    }
+    Ok(())
 }
 
 /// All deliver the same, but for the numbers that the Rust does not have: two of its own are 0, and what stands behind them is left as it
@@ -441,7 +653,7 @@ fn check_decoding(work: &Workload, place: u32) -> Result<(), String> {
     let rust_call = called(rust_decode, &work.image, place);
     let mut rust_loop = UNDELIVERED;
     rust_decode_at_each(&work.image, &[place], &mut rust_loop);
-    let all_delivered = !rattle.1[RUST_NUMBERS..].contains(&u32::MAX);
+    let all_delivered = !rattle.1[RUST_NUMBERS..].contains(&NO_NUMBER);
     if rust_call != (rattle.0, wanted) || rust_loop != wanted || !all_delivered {
         let answers = format!("rattle {rattle:?}\nrust, call {rust_call:?}\nrust, loop {rust_loop:?}");
         return Err(format!("different answers at place {place} of workload {}\n{answers}", work.name));
@@ -449,44 +661,54 @@ fn check_decoding(work: &Workload, place: u32) -> Result<(), String> {
     Ok(())
 }
 
-/// Where the Rust has nothing to compare with: accepted with the length that the oracle's model says, and every number is delivered.
-fn check_accepted(work: &Workload, place: u32) -> Result<(), String> {
-    let (refusal, record) = called(m16c_decode, &work.image, place);
-    let length = oracle::answer(&work.image[place as usize..]).taken as u32;
-    if refusal != 0 || [record[TAKEN], record[LENGTH]] != [length; 2] || record.contains(&u32::MAX) {
+/// Where the Rust has nothing to compare with: accepted with the length that the oracle's model says, by the manual with that which the
+/// image was made with, and every number is delivered.
+fn check_accepted(work: &Workload, reading: Reading, place: u32) -> Result<(), String> {
+    let (refusal, record) = called(reading.functions().decode, &work.image, place);
+    let length = answered(reading, &work.image[place as usize..]).1 as u32;
+    if refusal != 0 || [record[TAKEN], record[LENGTH]] != [length; 2] || record.contains(&NO_NUMBER) {
         return Err(format!("not accepted at place {place} of workload {}: {refusal}, {record:?}", work.name));
     }
     Ok(())
 }
 
 /// An unmarked record is encoded, in no more bytes than it had, which decode to an instruction of the same name.
-fn check_encoding(record: &Record) -> Result<(), String> {
+fn check_encoding(reading: Reading, record: &Record) -> Result<(), String> {
     const OPCODE_TO_WIDTH: std::ops::RangeInclusive<usize> = 1..=3;
-    let (mut bytes, mut length) = ([0; LONGEST_INSTRUCTION], 0);
-    let refusal =
-        unsafe { m16c_encode(record.as_ptr(), record.len(), bytes.as_mut_ptr(), bytes.len(), 0, &mut length) };
-    let back = called(m16c_decode, &bytes, 0).1;
+    let (refusal, length, bytes) = encoded(reading, record);
+    let back = called(reading.functions().decode, &bytes, 0).1;
     let good = refusal == 0
         && length <= record[LENGTH] as usize
         && back[LENGTH] as usize == length
         && back[OPCODE_TO_WIDTH] == record[OPCODE_TO_WIDTH];
     if record[MARKED] == 0 && !good {
-        return Err(format!("{record:X?} is encoded as {refusal}, {length} bytes, {bytes:X?}"));
+        return Err(format!("{record:X?} is encoded by {reading:?} as {refusal}, {length} bytes, {bytes:X?}"));
     }
     Ok(())
 }
 
-/// There is a line, and it begins with the place.
-fn check_line(work: &Workload, place: u32) -> Result<(), String> {
-    let (mut line, mut length) = ([0; LONGEST_LINE], 0);
-    let (image, to) = (work.image.as_slice(), line.as_mut_slice());
-    let refusal =
-        unsafe { m16c_line(image.as_ptr(), image.len(), place as usize, to.as_mut_ptr(), to.len(), &mut length) };
-    let begin = format!("{:04X} ", place & 0xFFFF);
+fn encoded(reading: Reading, record: &Record) -> (u32, usize, [u8; LONGEST_INSTRUCTION]) {
+    let (mut bytes, mut length) = ([0; LONGEST_INSTRUCTION], 0);
+    let encode = reading.functions().encode;
+    let refusal = unsafe { encode(record.as_ptr(), record.len(), bytes.as_mut_ptr(), bytes.len(), 0, &mut length) };
+    (refusal, length, bytes)
+}
+
+/// There is a line, and it begins with the place and the record's length.
+fn check_line(work: &Workload, reading: Reading, place: u32, record: &Record) -> Result<(), String> {
+    let (refusal, length, line) = listed(reading, &work.image, place);
+    let begin = format!("{:04X} {} ", place & 0xFFFF, record[LENGTH]);
     if refusal != 0 || length <= begin.len() || !line.starts_with(begin.as_bytes()) {
         return Err(format!("the line at place {place} of workload {} is {refusal}, {length}, {line:?}", work.name));
     }
     Ok(())
+}
+
+fn listed(reading: Reading, image: &[u8], place: u32) -> (u32, usize, [u8; LONGEST_LINE]) {
+    let (mut line, mut length) = ([0; LONGEST_LINE], 0);
+    let (list, to) = (reading.functions().line, line.as_mut_slice());
+    let refusal = unsafe { list(image.as_ptr(), image.len(), place as usize, to.as_mut_ptr(), to.len(), &mut length) };
+    (refusal, length, line)
 }
 
 /// The length is that of the record.
@@ -530,18 +752,19 @@ struct Swept {
 const UNTOUCHED: u16 = u16::MAX;
 
 /// All that go on sweep a piece to its end, over the same starts; the stopping sweep ends at the first refusal.
-fn check_sweeping(work: &Workload, piece: &[u8]) -> Result<(), String> {
-    let visited = visited(piece);
-    let end = Visit { place: piece.len(), refusal: oracle::ACCEPTED, taken: 0 };
-    let first_refused = visited.iter().position(|visit| visit.refusal != oracle::ACCEPTED);
+fn check_sweeping(work: &Workload, reading: Reading, piece: &[u8]) -> Result<(), String> {
+    let visited = visited(reading, piece);
+    let end = Visit { place: piece.len(), refusal: 0, taken: 0 };
+    let first_refused = visited.iter().position(|visit| visit.refusal != 0);
     let (before, stop) = first_refused.map_or((visited.as_slice(), end), |k| (&visited[..k], visited[k]));
     let going_on = swept_so(piece, &visited, end);
-    check_swept("rattle", m16c_sweep, piece, &going_on)?;
-    if work.in_rust {
+    let Functions { sweep, sweep_stopping, .. } = reading.functions();
+    check_swept("rattle", sweep, piece, &going_on)?;
+    if work.in_rust && reading == Document01 {
         check_swept("rust, call", rust_sweep_call, piece, &going_on)?;
         check_swept("rust, loop", rust_sweep_loop, piece, &going_on)?;
     }
-    check_swept("rattle, stopping", m16c_sweep_stopping, piece, &swept_so(piece, before, stop))
+    check_swept("rattle, stopping", sweep_stopping, piece, &swept_so(piece, before, stop))
 }
 
 fn check_swept(name: &str, sweep: Sweep, piece: &[u8], expected: &Swept) -> Result<(), String> {
@@ -554,12 +777,12 @@ fn check_swept(name: &str, sweep: Sweep, piece: &[u8], expected: &Swept) -> Resu
 
 /// What a sweep leaves that passes these places, and ends at another, whose decoding it read too.
 fn swept_so(piece: &[u8], passed: &[Visit], last: Visit) -> Swept {
-    let accepted = passed.iter().filter(|visit| visit.refusal == oracle::ACCEPTED);
+    let accepted = passed.iter().filter(|visit| visit.refusal == 0);
     let mut starts: Vec<u16> = accepted.map(|visit| visit.place as u16).collect();
     let count = starts.len();
     starts.resize(piece.len(), UNTOUCHED);
     let read = passed.iter().chain([&last]).map(|visit| visit.taken).sum();
-    Swept { refusal: last.refusal.into(), count, place: last.place, refused: passed.len() - count, read, starts }
+    Swept { refusal: last.refusal, count, place: last.place, refused: passed.len() - count, read, starts }
 }
 
 fn swept(sweep: Sweep, piece: &[u8]) -> Swept {
@@ -571,8 +794,9 @@ fn swept(sweep: Sweep, piece: &[u8]) -> Swept {
     Swept { refusal, count, place, refused, read, starts }
 }
 
-// Stands in a record before it is delivered.
-const UNDELIVERED: Record = [u32::MAX; NUMBERS];
+// Stands in a record before it is delivered: no number of a record is so big, but for those from -8 to -1.
+const NO_NUMBER: u32 = 0xDEAD_BEEF;
+const UNDELIVERED: Record = [NO_NUMBER; NUMBERS];
 
 fn called(decode: Decode, image: &[u8], place: u32) -> (u32, Record) {
     let mut record = UNDELIVERED;
@@ -599,17 +823,19 @@ fn new_out() -> Out {
 // The plugin's marks are system calls that no kernel has; without the plugin they do nothing.
 const BEGIN_MARK: i64 = 0xBE7C01;
 const END_MARK: i64 = 0xBE7C02;
+// As many words of eight bytes as a system call takes beside the units.
+const LONGEST_LABEL: usize = 40;
 
 // The first run is not counted: it binds the functions that are called.
 fn count(label: &str, way: &Way, work: &Workload) {
     let mut out = new_out();
-    let mut text = [0; 32];
+    let mut text = [0; LONGEST_LABEL];
     text[..label.len()].copy_from_slice(label.as_bytes());
     let word = |k: usize| i64::from_le_bytes(text[8 * k..8 * k + 8].try_into().unwrap());
     (way.run)(work, &mut out);
     unsafe { syscall(BEGIN_MARK, 0) };
     (way.run)(work, &mut out);
-    unsafe { syscall(END_MARK, work.places.len() as i64, word(0), word(1), word(2), word(3)) };
+    unsafe { syscall(END_MARK, work.places.len() as i64, word(0), word(1), word(2), word(3), word(4)) };
 }
 
 // The best of many runs is the one that was disturbed least.

@@ -1,6 +1,7 @@
 # Sourced by run: code sizes.
 
-# A line "bytes FUNCTION - WHOSE CODE CONSTANTS" for each function and for all together, of the port's archives and of the Rust.
+# A line "bytes FUNCTION - WHOSE CODE CONSTANTS" for each function, of the port's archives and of the Rust, and for some that are linked
+# together: both decoders, the functions by document 01, those by the manual, and all.
 measure_sizes() {
     archive_sizes fast "$fast"
     if [ -n "$small" ]; then archive_sizes small "$small"; fi
@@ -12,7 +13,10 @@ archive_sizes() {
     for function in $c_functions; do
         code_size "${function#m16c_} - $1" "$2" "$function"
     done
-    code_size "together - $1" "$2" $c_functions
+    code_size "decoders - $1" "$2" m16c_decode m16c_decode_manual
+    code_size "together - $1" "$2" $document_functions
+    code_size "manual - $1" "$2" $manual_functions
+    code_size "all - $1" "$2" $c_functions
 }
 
 # At a level of optimisation. The Rust has decoding and sweeping.

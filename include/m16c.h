@@ -12,12 +12,25 @@
  * DROPPED is 1 where a 20-bit number was read from three bytes of which the upper four bits, which are not kept, were not all zero; zeros
  * are encoded there.
  *
+ * There are two readings. m16c_decode, m16c_encode, m16c_sweep, m16c_sweep_stopping and m16c_line go by document 01, which keeps answers
+ * that depart from the manual, and marks them. The same names with _manual go by the manual in these rows, which are then not marked:
+ *   74/75 3x MOV to SP; 76/77 9x DIVX, Cx DIVU, Ex ADCF; 7A 8x to Fx LDC; 7C/7D 4x MULU, 5x MUL; 7D 2x JMPI.W, 3x JSRI.W, Ax LDIPL,
+ *   Bx ADD to SP, DA BMGE, DD BMNO, DE BMLT; EB x4 FSET, x5 FCLR, x below 8.
+ * All other rows are as by document 01, marked ones too. m16c_length tells lengths by document 01 alone, and in some of these rows the
+ * manual has others; m16c_operand_number takes records of both readings.
+ *
+ * WARNING: A RECORD DOES NOT SAY WHICH READING MADE IT. Encode with the reading that decoded: what m16c_decode filled by m16c_encode,
+ * what m16c_decode_manual filled by m16c_encode_manual. The wrong encoder cannot tell, and may write another instruction:
+ *   7D B9  m16c_decode         ADD.W Imm8=1,SP, marked                 m16c_encode_manual makes 7D B1 of it, another instruction
+ *   7D B9  m16c_decode_manual  ADD.W Imm8=FFFFFFF9,SP, which adds -7   m16c_encode_manual makes 7D B9 of it, the same again
+ * Nor do starts say which sweep found them: decode and list there by the reading of the sweep.
+ *
  * Six numbers tell which bytes of the instruction FIRST, DISPABS and IMM_WIDE were read from. An OFFSET counts from the instruction's
  * first byte. A WIDTH is 1, 2 or 3 bytes, of which the low one comes first; three hold 20 bits. Both are 0 where no byte behind the second
  * was read: there is no such number, or the code has it, as in INT and PUSHM. These bytes may be changed in place to any number of that
  * width: decoding gives the same record again, but for this number, and for DROPPED if there are three bytes. Encoding ignores the six.
- * They go by numbers, not by operands: in the marked rows 74 3x and 75 3x DISPABS is the source's displacement, operand 0's, although the
- * listing shows that number under operand 1, Disp8_SP.
+ * They go by numbers, not by operands: in the rows 74 3x and 75 3x, which document 01 marks, DISPABS is by its reading the source's
+ * displacement, operand 0's, although the listing shows that number under operand 1, Disp8_SP.
  *
  * The list of PUSHM and of POPM is one byte, the number of RegList in IMM_WIDE, with a bit for each register. REGISTERS is how many
  * registers the list names, so how many bits are one; 0 for the empty list, which is accepted, and in every other record. Encoding ignores
@@ -269,9 +282,16 @@ enum m16c_operand {
  * read from, and how many registers a list names. With fewer than twenty entries it returns 6 and touches none. */
 uint32_t m16c_decode(const uint8_t *image, size_t image_length, size_t at, uint32_t *out, size_t out_length);
 
+/* Decodes as m16c_decode does, by the manual. The record does not say so: encode it by m16c_encode_manual. */
+uint32_t m16c_decode_manual(const uint8_t *image, size_t image_length, size_t at, uint32_t *out, size_t out_length);
+
 /* Encodes the record of the first twelve numbers that m16c_decode fills, from a place of a buffer on. Taken, length and marked do not
  * count, nor what stands behind. Returns 0 and leaves the number of bytes written, or 5 or 6 with 0 and the buffer as it was. */
 uint32_t m16c_encode(const uint32_t *numbers, size_t numbers_length, uint8_t *buf, size_t buf_length, size_t place, size_t *bytes_written);
+
+/* Encodes as m16c_encode does, by the manual: records that m16c_decode_manual fills. A record does not say which reading made it, and of one
+ * that m16c_decode filled this may write another instruction: the record of 7D B9 becomes 7D B1. */
+uint32_t m16c_encode_manual(const uint32_t *numbers, size_t numbers_length, uint8_t *buf, size_t buf_length, size_t place, size_t *bytes_written);
 
 /* The starts of an image's instructions, to its end: a refused place is counted, and the next byte decoded. Returns 0, and leaves how many
  * starts were kept, the image's length, how many places were refused and how many bytes all decodings took, at most three times the image's
@@ -283,13 +303,22 @@ uint32_t m16c_sweep(const uint8_t *image, size_t image_length, uint16_t *starts,
  * or returns 7 or 6, and leaves 0 and the starts as they were. */
 uint32_t m16c_sweep_stopping(const uint8_t *image, size_t image_length, uint16_t *starts, size_t starts_length, size_t *count, size_t *place, size_t *refused, size_t *read);
 
+/* Sweeps as m16c_sweep does, by the manual. The starts do not say so: decode and list there by the manual too. */
+uint32_t m16c_sweep_manual(const uint8_t *image, size_t image_length, uint16_t *starts, size_t starts_length, size_t *count, size_t *place, size_t *refused, size_t *read);
+
+/* Sweeps as m16c_sweep_stopping does, by the manual. The starts do not say so: decode and list there by the manual too. */
+uint32_t m16c_sweep_manual_stopping(const uint8_t *image, size_t image_length, uint16_t *starts, size_t starts_length, size_t *count, size_t *place, size_t *refused, size_t *read);
+
 /* The listing's line of the instruction at a place of an image, without a newline, over the first bytes of a buffer. Returns 0 and leaves
  * the line's length; or decoding's refusal, or 6 where the line has no room, with length 0 and the buffer as it was. */
 uint32_t m16c_line(const uint8_t *image, size_t image_length, size_t at, uint8_t *out, size_t out_length, size_t *line_length);
 
-/* The length that every accepted instruction has that begins with the first two bytes; more bytes do not count. Returns 0 and leaves the
- * length; or a refusal and 0: 4 for a first byte outside, then 1 for fewer than two bytes, else 2 or 3 where no bytes behind these two make
- * an instruction. */
+/* The line as m16c_line writes it, of the instruction that stands there by the manual. */
+uint32_t m16c_line_manual(const uint8_t *image, size_t image_length, size_t at, uint8_t *out, size_t out_length, size_t *line_length);
+
+/* The length that every instruction has that m16c_decode accepts and that begins with the first two bytes; more bytes do not count, and by
+ * the manual some lengths are others. Returns 0 and leaves the length; or a refusal and 0: 4 for a first byte outside, then 1 for fewer than
+ * two bytes, else 2 or 3 where no bytes behind these two make an instruction. */
 uint32_t m16c_length(const uint8_t *bytes, size_t bytes_length, size_t *length);
 
 /* The number of operand k of the record of the first twelve numbers that m16c_decode fills: signed for Disp8_FB and Disp8, whose low byte

@@ -1,4 +1,4 @@
-// An encoder by brute force over decoding, the Rust's and for request A7's first bytes the model's: every unmarked code, with a record's
+// An encoder by brute force over decoding, the Rust's and for requests A7 and A9 the models': every unmarked code, with a record's
 // numbers filled in where the code reads them, is decoded; of the strings that say the same instruction the shortest is taken, then the
 // first in byte order.
 // No row is written down here. Which codes can name an instruction, and what their bytes are for, is found by trying.
@@ -7,7 +7,7 @@ use std::collections::HashMap;
 use std::sync::OnceLock;
 
 use crate::operands::{asked_for, settled, Field, WIDTHS};
-use crate::{code_of, expected, CODES, DISPABS, FIELDS, FIRST, IMM_WIDE, OPCODE, OPERANDS, SIZE, TAKEN, WIDTH};
+use crate::{code_of, expected, manual, Reading, CODES, DISPABS, FIELDS, FIRST, IMM_WIDE, OPCODE, OPERANDS, SIZE, TAKEN, WIDTH};
 
 pub type Record = [u32; FIELDS];
 
@@ -84,9 +84,12 @@ fn base(name: &str) -> &str {
 
 // ---- Marks
 
-/// Whether a code's row is starred, in the rules or by what docs/DIFFERENCES.md reports; of request A7's none is. Of a refused code it says
-/// nothing.
-pub fn marked(first: u8, second: u8) -> bool {
+/// Whether a code's row is starred, in the rules or by what docs/DIFFERENCES.md reports; of request A7's none is. By the manual none is
+/// that request A9 names, and the others stay. Of a refused code it says nothing.
+pub fn marked(reading: Reading, first: u8, second: u8) -> bool {
+    if reading == Reading::Manual && manual::has([first, second]) {
+        return false;
+    }
     let (h, n) = (second >> 4, second & 0xF);
     match first {
         0x74 | 0x75 => h == 3,
@@ -126,16 +129,16 @@ impl Spelling {
     }
 
     /// What the whole string decodes to.
-    fn key(&self) -> Option<Key> {
-        let answer = expected(self.bytes());
+    fn key(&self, reading: Reading) -> Option<Key> {
+        let answer = expected(reading, self.bytes());
         if answer.refusal != 0 || answer.fields[TAKEN] as usize != self.length {
             return None;
         }
         key_of(&answer.fields)
     }
 
-    fn names(&self) -> Option<Names> {
-        Some(self.key()?.names)
+    fn names(&self, reading: Reading) -> Option<Names> {
+        Some(self.key(reading)?.names)
     }
 }
 
@@ -162,42 +165,44 @@ impl Form {
 }
 
 /// The forms of a code. A byte behind it that changes what is named is a condition, and each of its values is a form.
-fn forms_of(first: u8, second: u8) -> Vec<Form> {
+fn forms_of(reading: Reading, first: u8, second: u8) -> Vec<Form> {
     let zeros = [first, second, 0, 0, 0, 0, 0];
-    let answer = expected(&zeros);
-    if answer.refusal != 0 || marked(first, second) {
+    let answer = expected(reading, &zeros);
+    if answer.refusal != 0 || marked(reading, first, second) {
         return Vec::new();
     }
     let plain = Spelling::of(&zeros[..answer.fields[TAKEN] as usize]);
-    let names = plain.names();
-    let is_condition = |place: &usize| (0..=255).any(|byte| plain.with(*place, byte).names() != names);
+    let names = plain.names(reading);
+    let is_condition = |place: &usize| (0..=255).any(|byte| plain.with(*place, byte).names(reading) != names);
     let (conditions, numbers): (Vec<usize>, Vec<usize>) = (2..plain.length).partition(is_condition);
     let spellings: Vec<Spelling> = match conditions[..] {
         [] => vec![plain],
         [place] => (0..=255).map(|byte| plain.with(place, byte)).collect(),
         _ => panic!("two conditions behind {first:02X} {second:02X}"),
     };
-    let holes = |spelling: Spelling| numbers.iter().map(|place| hole(spelling, *place)).collect();
-    let accepted = spellings.into_iter().filter(|spelling| spelling.names().is_some());
+    let holes = |spelling: Spelling| numbers.iter().map(|place| hole(reading, spelling, *place)).collect();
+    let accepted = spellings.into_iter().filter(|spelling| spelling.names(reading).is_some());
     accepted.map(|spelling| Form { spelling, holes: holes(spelling) }).collect()
 }
 
 /// Which number a byte belongs to: the one that changes with it.
-fn hole(spelling: Spelling, place: usize) -> Hole {
-    let numbers = |spelling: Spelling| spelling.key().expect("a number's byte changes no name").numbers;
+fn hole(reading: Reading, spelling: Spelling, place: usize) -> Hole {
+    let numbers = |spelling: Spelling| spelling.key(reading).expect("a number's byte changes no name").numbers;
     let (without, with) = (numbers(spelling), numbers(spelling.with(place, 1)));
     let operand = (0..3).find(|k| without[*k] != with[*k]).expect("a byte is for something");
     Hole { place, operand, shift: (without[operand] ^ with[operand]).trailing_zeros() }
 }
 
-fn forms() -> &'static HashMap<Names, Vec<Form>> {
-    static FORMS: OnceLock<HashMap<Names, Vec<Form>>> = OnceLock::new();
-    FORMS.get_or_init(|| {
-        let mut forms: HashMap<Names, Vec<Form>> = HashMap::new();
+type Forms = HashMap<Names, Vec<Form>>;
+
+fn forms(reading: Reading) -> &'static Forms {
+    static FORMS: [OnceLock<Forms>; 2] = [OnceLock::new(), OnceLock::new()];
+    FORMS[reading as usize].get_or_init(|| {
+        let mut forms = Forms::new();
         for number in 0..CODES {
             let (first, second) = code_of(number);
-            for form in forms_of(first, second) {
-                let names = form.spelling.names().expect("a form is accepted");
+            for form in forms_of(reading, first, second) {
+                let names = form.spelling.names(reading).expect("a form is accepted");
                 forms.entry(names).or_default().push(form);
             }
         }
@@ -206,8 +211,8 @@ fn forms() -> &'static HashMap<Names, Vec<Form>> {
 }
 
 /// The best bytes for a record, if there are any.
-pub fn encode(record: &Record) -> Option<Spelling> {
+pub fn encode(reading: Reading, record: &Record) -> Option<Spelling> {
     let key = key_of(record)?;
-    let candidates = forms().get(&key.names)?.iter().map(|form| form.filled(&key.numbers));
-    candidates.filter(|spelling| spelling.key().as_ref() == Some(&key)).min()
+    let candidates = forms(reading).get(&key.names)?.iter().map(|form| form.filled(&key.numbers));
+    candidates.filter(|spelling| spelling.key(reading).as_ref() == Some(&key)).min()
 }

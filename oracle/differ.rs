@@ -1,7 +1,8 @@
 // The differential run: the port and the Rust on the same bytes, every field that the Rust has; for request A7's first bytes the port and
-// the model, and the model and the Rust.
-// Here are the running, the counting and the decoder's strings; tabled.rs, parts.rs, encoder.rs, sweeps.rs, lines.rs, lengths.rs,
-// numbers.rs and replayed.rs have the rest.
+// the model, and the model and the Rust; by request A9's reading the port and the model for the codes that the request names, and the model
+// and the witnesses' table.
+// Here are the running, the counting and the decoder's strings; tabled.rs, witnesses.rs, parts.rs, encoder.rs, sweeps.rs, lines.rs,
+// lengths.rs, numbers.rs and replayed.rs have the rest. What a reading has a function for is run by both readings.
 // usage: differ [--all]
 
 mod brute;
@@ -9,6 +10,7 @@ mod brute;
 #[path = "../bindings/rust/src/c.rs"]
 mod c;
 mod encoder;
+mod functions;
 mod known;
 mod lengths;
 mod lines;
@@ -20,6 +22,7 @@ mod replayed;
 mod sweeps;
 mod tabled;
 mod told;
+mod witnesses;
 
 use std::env;
 use std::fmt::Write;
@@ -27,6 +30,8 @@ use std::process::ExitCode;
 use std::sync::atomic::{AtomicUsize, Ordering};
 use std::thread;
 
+use brute::marked;
+use oracle::manual::{self, Reading};
 use oracle::model;
 use parts::places_of;
 
@@ -72,17 +77,22 @@ struct Answer {
     fields: [u32; FIELDS],
 }
 
-/// What the port has to answer. The mark, of which neither the Rust nor the model tells, is 0.
-fn expected(bytes: &[u8]) -> Answer {
-    match model::decoded(bytes) {
+/// What the port has to answer.
+fn expected(reading: Reading, bytes: &[u8]) -> Answer {
+    let mut answer = match reading.modelled(bytes) {
         Some(decoded) => by_the_model(&decoded),
         None => by_the_rust(bytes),
+    };
+    if answer.refusal == u32::from(oracle::ACCEPTED) {
+        answer.fields[MARKED] = marked(reading, bytes[0], bytes[1]).into();
     }
+    answer
 }
 
 fn by_the_model(decoded: &model::Decoded) -> Answer {
     let mut answer = of_answer(&decoded.answer);
     answer.fields[WIDTH] = decoded.width as u32;
+    answer.fields[DROPPED] = decoded.dropped.into();
     set_places(&mut answer, decoded.parts);
     answer
 }
@@ -92,7 +102,7 @@ fn by_the_rust(bytes: &[u8]) -> Answer {
     let rust = oracle::answer(bytes);
     let mut answer = of_answer(&rust);
     if rust.refusal == oracle::ACCEPTED {
-        let places = places_of([bytes[0], bytes[1]]);
+        let places = places_of(Reading::Present, [bytes[0], bytes[1]]);
         answer.fields[WIDTH] = width_number(bytes[0]);
         answer.fields[FIRST] = places[0].number(bytes);
         answer.fields[DROPPED] = u32::from(reads_20_bits(&rust.operands) && bytes[rust.taken - 1] >= 0x10);
@@ -141,23 +151,15 @@ fn width_number(first: u8) -> u32 {
 // Stands in the buffer before each call: a number that no field can hold, so that a field left out is seen.
 const UNWRITTEN: u32 = 0xDEAD_BEEF;
 
-fn ported(image: &[u8], at: usize) -> Answer {
+fn ported(reading: Reading, image: &[u8], at: usize) -> Answer {
     let mut fields = [UNWRITTEN; FIELDS];
-    let refusal = decode_into(image, at, &mut fields);
+    let refusal = decode_into(reading, image, at, &mut fields);
     Answer { refusal, fields }
 }
 
-fn decode_into(image: &[u8], at: usize, out: &mut [u32]) -> u32 {
-    unsafe { c::m16c_decode(image.as_ptr(), image.len(), at, out.as_mut_ptr(), out.len()) }
-}
-
-/// The port's answer without the mark of an accepted one, if it is 0 or 1: neither the Rust nor the model has it.
-fn judged(wanted: &Answer, port: &Answer) -> Answer {
-    let mut judged = port.clone();
-    if wanted.refusal == u32::from(oracle::ACCEPTED) && judged.fields[MARKED] <= 1 {
-        judged.fields[MARKED] = 0;
-    }
-    judged
+fn decode_into(reading: Reading, image: &[u8], at: usize, out: &mut [u32]) -> u32 {
+    let decode = functions::of(reading).decode;
+    unsafe { decode(image.as_ptr(), image.len(), at, out.as_mut_ptr(), out.len()) }
 }
 
 /// A record for encoders of the numbers that they want. What stands behind these must not count, and is what no record has there.
@@ -169,8 +171,9 @@ fn record_of(wanted: [u32; WANTED]) -> [u32; FIELDS] {
 
 // ---- Counting, and keeping the first difference
 
-#[derive(Default)]
+/// Comparisons by one reading.
 struct Tally {
+    reading: Reading,
     compared: u64,
     accepted: u64,
     different: u64,
@@ -178,11 +181,16 @@ struct Tally {
 }
 
 impl Tally {
+    fn of(reading: Reading) -> Tally {
+        Tally { reading, compared: 0, accepted: 0, different: 0, first_difference: None }
+    }
+
     /// Compares the answers for the bytes of `image` from `at` on.
     fn compare(&mut self, image: &[u8], at: usize) -> Answer {
-        let wanted = expected(image.get(at..).unwrap_or(&[]));
-        let port = ported(image, at);
-        self.count(wanted.refusal == 0, judged(&wanted, &port) == wanted, || describe(image, at, &wanted, &port));
+        let wanted = expected(self.reading, image.get(at..).unwrap_or(&[]));
+        let port = ported(self.reading, image, at);
+        let reading = self.reading;
+        self.count(wanted.refusal == 0, port == wanted, || describe(reading, image, at, &wanted, &port));
         wanted
     }
 
@@ -192,7 +200,8 @@ impl Tally {
         self.accepted += u64::from(accepted);
         if !same {
             self.different += 1;
-            self.first_difference.get_or_insert_with(describe);
+            let reading = self.reading;
+            self.first_difference.get_or_insert_with(|| format!("{reading:?} reading, {}", describe()));
         }
     }
 
@@ -205,20 +214,18 @@ impl Tally {
     }
 }
 
-fn describe(image: &[u8], at: usize, wanted: &Answer, port: &Answer) -> String {
-    let judged = judged(wanted, port);
-    let by_model = image.get(at).is_some_and(|first| model::has(*first));
+fn describe(reading: Reading, image: &[u8], at: usize, wanted: &Answer, port: &Answer) -> String {
+    let by_model = reading.modelled(image.get(at..).unwrap_or(&[])).is_some();
     let mut text = format!("place {at} of {}, by the {}\n", hex(image), if by_model { "model" } else { "Rust" });
-    let mut line = |name: &str, wanted: u32, port: u32, same: bool| {
-        let sign = if same { ' ' } else { '*' };
+    let mut line = |name: &str, wanted: u32, port: u32| {
+        let sign = if wanted == port { ' ' } else { '*' };
         writeln!(text, "  {sign} {name:15} wanted {wanted:8X}   port {port:8X}").unwrap();
     };
-    line("refusal", wanted.refusal, port.refusal, wanted.refusal == port.refusal);
+    line("refusal", wanted.refusal, port.refusal);
     for (field, name) in FIELD_NAMES.iter().enumerate() {
-        let wanted = wanted.fields[field];
-        line(name, wanted, port.fields[field], wanted == judged.fields[field]);
+        line(name, wanted.fields[field], port.fields[field]);
     }
-    text += "  (in hex; of `marked` 0 is shown; the Rust has no `first`, `dropped`, offsets and widths: what the bytes say is shown)\n";
+    text += "  (in hex; the Rust has no `first`, `dropped`, offsets and widths: what the bytes say is shown)\n";
     text
 }
 
@@ -248,6 +255,7 @@ const KINDS: &[Kind] = &[
     Kind { name: "5 to 9 bytes, at random", quick_parts: 100, all_parts: 1000, run_part: random_strings },
     Kind { name: "accepted, cut short", quick_parts: 100, all_parts: 1000, run_part: cut_strings },
     Kind { name: "accepted, one byte damaged", quick_parts: 100, all_parts: 1000, run_part: damaged_strings },
+    Kind { name: "request A9's codes with many tails, and cuts of them", quick_parts: NAMED, all_parts: NAMED, run_part: named_strings },
     Kind { name: "every last byte, of codes that read 20 bits", quick_parts: CODES, all_parts: CODES, run_part: last_bytes },
     Kind { name: "places in an image, at its end and past it", quick_parts: 100, all_parts: 1000, run_part: places_in_images },
     Kind { name: "buffers too short or too long", quick_parts: CODES, all_parts: CODES, run_part: buffers },
@@ -296,7 +304,7 @@ fn random_strings(part: usize, tally: &mut Tally) {
 fn cut_strings(part: usize, tally: &mut Tally) {
     let mut random = Random::of("cut", part);
     for _ in 0..STRINGS_IN_A_PART {
-        let string = random.accepted_string();
+        let string = random.accepted_string(tally.reading);
         let kept = random.below(string.len());
         tally.compare(&string[..kept], 0);
     }
@@ -305,28 +313,45 @@ fn cut_strings(part: usize, tally: &mut Tally) {
 fn damaged_strings(part: usize, tally: &mut Tally) {
     let mut random = Random::of("damaged", part);
     for _ in 0..STRINGS_IN_A_PART {
-        let mut string = random.accepted_string();
+        let mut string = random.accepted_string(tally.reading);
         let place = random.below(string.len());
         string[place] ^= 1 + random.below(255) as u8;
         tally.compare(&string, 0);
     }
 }
 
+/// The codes that request A9 names, of which the readings differ in most.
+fn named_codes() -> Vec<[u8; 2]> {
+    (0..=u16::MAX).map(u16::to_be_bytes).filter(|code| manual::has(*code)).collect()
+}
+
+const NAMED: usize = 403;
+
+/// A part is a code.
+fn named_strings(part: usize, tally: &mut Tally) {
+    let code = named_codes()[part];
+    for string in told::tails(code).into_iter().map(|tail| told::behind(code, tail)) {
+        for length in code.len()..=string.len() {
+            tally.compare(&string[..length], 0);
+        }
+    }
+}
+
 /// Strings of a code that reads 20 bits, with every last byte: none of another code. A part is a code.
-fn twenty_bit_strings(part: usize) -> Vec<Vec<u8>> {
+fn twenty_bit_strings(reading: Reading, part: usize) -> Vec<Vec<u8>> {
     let (first, second) = code_of(part);
     let mut random = Random::of("last bytes", part);
     let string: Vec<u8> = [first, second].into_iter().chain((0..5).map(|_| random.byte())).collect();
-    let rust = oracle::answer(&string);
-    if rust.refusal != oracle::ACCEPTED || !reads_20_bits(&rust.operands) {
+    let answer = reading.answer(&string);
+    if answer.refusal != oracle::ACCEPTED || !reads_20_bits(&answer.operands) {
         return Vec::new();
     }
-    let (_, kept) = string[..rust.taken].split_last().expect("an instruction has bytes");
+    let (_, kept) = string[..answer.taken].split_last().expect("an instruction has bytes");
     (0..=255).map(|last| kept.iter().copied().chain([last]).collect()).collect()
 }
 
 fn last_bytes(part: usize, tally: &mut Tally) {
-    for string in twenty_bit_strings(part) {
+    for string in twenty_bit_strings(tally.reading, part) {
         tally.compare(&string, 0);
     }
 }
@@ -351,7 +376,7 @@ fn buffers(part: usize, tally: &mut Tally) {
     const LONGEST_BUFFER: usize = FIELDS + 3;
     let (first, second) = code_of(part);
     let string = [first, second, 0, 0, 0, 0, 0];
-    let answer = ported(&string, 0);
+    let answer = ported(tally.reading, &string, 0);
     for room in (0..FIELDS).chain(FIELDS + 1..=LONGEST_BUFFER) {
         let mut wanted = [UNWRITTEN; LONGEST_BUFFER];
         let mut wanted_refusal = TOO_LITTLE_ROOM;
@@ -360,7 +385,7 @@ fn buffers(part: usize, tally: &mut Tally) {
             wanted_refusal = answer.refusal;
         }
         let mut buffer = [UNWRITTEN; LONGEST_BUFFER];
-        let refusal = decode_into(&string, 0, &mut buffer[..room]);
+        let refusal = decode_into(tally.reading, &string, 0, &mut buffer[..room]);
         tally.count(wanted_refusal == 0, refusal == wanted_refusal && buffer == wanted, || {
             let bytes = hex(&string);
             format!("{bytes} with room for {room} numbers\n  wanted {wanted_refusal} {wanted:X?}\n  port   {refusal} {buffer:X?}\n")
@@ -405,19 +430,19 @@ impl Random {
     }
 
     /// Without the bytes behind the instruction, so that every cut takes something away.
-    fn accepted_string(&mut self) -> Vec<u8> {
-        self.taken_string(|refusal| refusal == oracle::ACCEPTED)
+    fn accepted_string(&mut self, reading: Reading) -> Vec<u8> {
+        self.taken_string(reading, |refusal| refusal == oracle::ACCEPTED)
     }
 
     /// With all the bytes that decoding took before it refused.
-    fn refused_string(&mut self) -> Vec<u8> {
-        self.taken_string(|refusal| refusal != oracle::ACCEPTED)
+    fn refused_string(&mut self, reading: Reading) -> Vec<u8> {
+        self.taken_string(reading, |refusal| refusal != oracle::ACCEPTED)
     }
 
-    fn taken_string(&mut self, wanted: fn(u8) -> bool) -> Vec<u8> {
+    fn taken_string(&mut self, reading: Reading, wanted: fn(u8) -> bool) -> Vec<u8> {
         loop {
             let mut string = self.string();
-            let answer = oracle::answer(&string);
+            let answer = reading.answer(&string);
             if wanted(answer.refusal) {
                 string.truncate(answer.taken);
                 return string;
@@ -433,16 +458,24 @@ impl Random {
 
 // ---- Running
 
-const TASKS: [(&str, &[Kind]); 9] = [
-    ("the Rust's own table beside the model", tabled::KINDS),
-    ("stored answers", replayed::KINDS),
-    ("decode", KINDS),
-    ("parts", parts::KINDS),
-    ("encode", encoder::KINDS),
-    ("sweep", sweeps::KINDS),
-    ("line", lines::KINDS),
-    ("length", lengths::KINDS),
-    ("operand number", numbers::KINDS),
+#[rustfmt::skip]
+const TASKS: [(&str, Reading, &[Kind]); 15] = [
+    ("the Rust's own table beside the model", Reading::Present, tabled::KINDS),
+    ("the witnesses' table beside the model and the port", Reading::Manual, witnesses::KINDS),
+    ("stored answers", Reading::Present, replayed::KINDS),
+    ("stored answers by the manual", Reading::Manual, replayed::KINDS_BY_MANUAL),
+    ("decode", Reading::Present, KINDS),
+    ("decode by the manual", Reading::Manual, KINDS),
+    ("parts", Reading::Present, parts::KINDS),
+    ("parts by the manual", Reading::Manual, parts::KINDS),
+    ("encode", Reading::Present, encoder::KINDS),
+    ("encode by the manual", Reading::Manual, encoder::KINDS),
+    ("sweep", Reading::Present, sweeps::KINDS),
+    ("sweep by the manual", Reading::Manual, sweeps::KINDS),
+    ("line", Reading::Present, lines::KINDS),
+    ("line by the manual", Reading::Manual, lines::KINDS),
+    ("length", Reading::Present, lengths::KINDS),
+    ("operand number", Reading::Present, numbers::KINDS),
 ];
 
 fn main() -> ExitCode {
@@ -455,15 +488,15 @@ fn main() -> ExitCode {
             return ExitCode::from(2);
         }
     };
-    let mut total = Tally::default();
-    for (what, kinds) in TASKS {
+    let mut total = Tally::of(Reading::Present);
+    for (what, reading, kinds) in TASKS {
         println!("{:>13} {:>13} {:>13}  {what}", "compared", "accepted", "different");
         for kind in kinds {
             let parts = if all { kind.all_parts } else { kind.quick_parts };
             if parts == 0 {
                 continue;
             }
-            let tally = run(kind, parts);
+            let tally = run(kind, reading, parts);
             print_line(&tally, kind.name);
             total.add(tally);
         }
@@ -482,28 +515,28 @@ fn print_line(tally: &Tally, name: &str) {
     println!("{:13} {:13} {:13}  {name}", tally.compared, tally.accepted, tally.different);
 }
 
-fn run(kind: &Kind, parts: usize) -> Tally {
+fn run(kind: &Kind, reading: Reading, parts: usize) -> Tally {
     let next_part = AtomicUsize::new(0);
     let mut done: Vec<(usize, Tally)> = thread::scope(|scope| {
-        let threads: Vec<_> = (0..THREADS).map(|_| scope.spawn(|| take_parts(kind, parts, &next_part))).collect();
+        let threads: Vec<_> = (0..THREADS).map(|_| scope.spawn(|| take_parts(kind, reading, parts, &next_part))).collect();
         threads.into_iter().flat_map(|thread| thread.join().expect("the Rust panicked")).collect()
     });
     done.sort_by_key(|(part, _)| *part);
-    let mut total = Tally::default();
+    let mut total = Tally::of(reading);
     for (_, tally) in done {
         total.add(tally);
     }
     total
 }
 
-fn take_parts(kind: &Kind, parts: usize, next_part: &AtomicUsize) -> Vec<(usize, Tally)> {
+fn take_parts(kind: &Kind, reading: Reading, parts: usize, next_part: &AtomicUsize) -> Vec<(usize, Tally)> {
     let mut done = Vec::new();
     loop {
         let part = next_part.fetch_add(1, Ordering::Relaxed);
         if part >= parts {
             return done;
         }
-        let mut tally = Tally::default();
+        let mut tally = Tally::of(reading);
         (kind.run_part)(part, &mut tally);
         done.push((part, tally));
     }

@@ -1,10 +1,11 @@
-// The encoder's part of the differential run: the port's `m16c_encode` beside the brute force of brute.rs.
+// The encoder's part of the differential run: the port's `m16c_encode`, or `m16c_encode_manual`, beside the brute force of brute.rs.
 
+use std::collections::HashSet;
 use std::fmt::Write;
 
 use crate::brute::{self, Record, Spelling};
 use crate::operands;
-use crate::{c, code_of, expected, hex, ported, record_of, Kind, Random, Tally, CODES, TOO_LITTLE_ROOM};
+use crate::{code_of, expected, functions, hex, named_codes, ported, record_of, Kind, Random, Reading, Tally, CODES, NAMED, TOO_LITTLE_ROOM};
 use crate::{DROPPED, FIELDS, FIELD_NAMES, MARKED, OPCODE, OPERANDS, SIZE, TAKEN, WANTED, WIDTH};
 
 const NO_STRING: u32 = 5;
@@ -17,12 +18,14 @@ pub const KINDS: &[Kind] = &[
     Kind { name: "records of 4 bytes, every one", quick_parts: 0, all_parts: CODES, run_part: four_bytes },
     Kind { name: "records of 4 to 7 bytes, every code, at random", quick_parts: CODES, all_parts: 16 * CODES, run_part: longer_strings },
     Kind { name: "records of instructions, a field or two changed", quick_parts: 100, all_parts: 1000, run_part: near_misses },
+    Kind { name: "records of the other reading, of request A9's codes", quick_parts: NAMED, all_parts: NAMED, run_part: other_reading },
     Kind { name: "records made up", quick_parts: 20, all_parts: 200, run_part: made_up },
     Kind { name: "records too short or too long", quick_parts: CODES, all_parts: CODES, run_part: record_lengths },
     Kind { name: "rooms: buffers and places in them", quick_parts: CODES, all_parts: CODES, run_part: rooms },
 ];
 
 const STRINGS_OF_A_CODE: usize = 40;
+const RECORDS_OF_A_NAMED_CODE: usize = 500;
 const RECORDS_IN_A_PART: usize = 5_000;
 
 // ---- What is compared
@@ -65,18 +68,18 @@ fn wanted(answer: Option<Spelling>, room: Room) -> Outcome {
     Outcome { refusal: 0, length, buffer }
 }
 
-fn encoded(record: &[u32], room: Room) -> Outcome {
+fn encoded(reading: Reading, record: &[u32], room: Room) -> Outcome {
     const UNWRITTEN: usize = 0xDEAD_BEEF;
     let mut outcome = Outcome { refusal: 0, length: UNWRITTEN, buffer: untouched() };
     let passed = &mut outcome.buffer[AROUND..AROUND + room.length];
     let (from, count) = (record.as_ptr(), record.len());
-    outcome.refusal =
-        unsafe { c::m16c_encode(from, count, passed.as_mut_ptr(), passed.len(), room.place, &mut outcome.length) };
+    let encode = functions::of(reading).encode;
+    outcome.refusal = unsafe { encode(from, count, passed.as_mut_ptr(), passed.len(), room.place, &mut outcome.length) };
     outcome
 }
 
 pub fn compare(tally: &mut Tally, record: &[u32], answer: Option<Spelling>, room: Room) {
-    let (wanted, port) = (wanted(answer, room), encoded(record, room));
+    let (wanted, port) = (wanted(answer, room), encoded(tally.reading, record, room));
     tally.count(wanted.refusal == 0, wanted == port, || {
         let Room { length, place } = room;
         let mut text = format!("{}  place {place} of {length} bytes\n", fields(record));
@@ -110,19 +113,19 @@ fn name_of(field: usize, number: u32) -> &'static str {
 }
 
 fn compare_by_brute_force(tally: &mut Tally, record: &Record) {
-    compare(tally, record, brute::encode(record), WIDE_ROOM);
+    compare(tally, record, brute::encode(tally.reading, record), WIDE_ROOM);
 }
 
 /// The record of a string that is accepted to its last byte. The string itself, if unmarked, must not be better than what
 /// the brute force found: so that is checked against every string compared.
 fn compare_string(tally: &mut Tally, string: &[u8]) {
-    let wanted = expected(string);
+    let wanted = expected(tally.reading, string);
     if wanted.refusal != 0 || wanted.fields[TAKEN] as usize != string.len() {
         return;
     }
-    let record = ported(string, 0).fields;
-    let answer = brute::encode(&record);
-    let unmarked = !brute::marked(string[0], string[1]);
+    let record = ported(tally.reading, string, 0).fields;
+    let answer = brute::encode(tally.reading, &record);
+    let unmarked = !brute::marked(tally.reading, string[0], string[1]);
     if unmarked && answer.map_or(true, |found| found > Spelling::of(string)) {
         tally.count(true, false, || format!("the brute force itself: it missed {}\n", hex(string)));
     } else {
@@ -135,8 +138,8 @@ fn compare_string(tally: &mut Tally, string: &[u8]) {
 /// The brute force has the marks from documents; the port has them in its rows. A part is a code.
 fn marks(part: usize, tally: &mut Tally) {
     let (first, second) = code_of(part);
-    let port = ported(&[first, second, 0, 0, 0, 0, 0], 0);
-    let wanted = port.refusal == 0 && brute::marked(first, second);
+    let port = ported(tally.reading, &[first, second, 0, 0, 0, 0, 0], 0);
+    let wanted = port.refusal == 0 && brute::marked(tally.reading, first, second);
     let found = port.fields[MARKED] == 1;
     tally.count(port.refusal == 0, wanted == found, || {
         format!("the mark of {first:02X} {second:02X}\n  wanted {wanted}\n  port   {found}\n")
@@ -167,7 +170,7 @@ fn longer_strings(part: usize, tally: &mut Tally) {
     let (first, second) = code_of(part % CODES);
     let mut random = Random::of("longer", part);
     for _ in 0..STRINGS_OF_A_CODE {
-        let string = instruction(first, second, &mut random);
+        let string = instruction(tally.reading, first, second, &mut random);
         if string.len() > 3 {
             compare_string(tally, &string);
         }
@@ -175,10 +178,10 @@ fn longer_strings(part: usize, tally: &mut Tally) {
 }
 
 /// A code with bytes behind it, without those that it does not take. Many are 0 or FF, where numbers change their size.
-fn instruction(first: u8, second: u8, random: &mut Random) -> Vec<u8> {
+fn instruction(reading: Reading, first: u8, second: u8, random: &mut Random) -> Vec<u8> {
     let mut string = vec![first, second];
     string.extend((0..5).map(|_| [0, 0, 0xFF, random.byte(), random.byte()][random.below(5)]));
-    let taken = expected(&string).fields[TAKEN] as usize;
+    let taken = expected(reading, &string).fields[TAKEN] as usize;
     string.truncate(taken);
     string
 }
@@ -186,15 +189,37 @@ fn instruction(first: u8, second: u8, random: &mut Random) -> Vec<u8> {
 fn near_misses(part: usize, tally: &mut Tally) {
     let mut random = Random::of("near misses", part);
     for _ in 0..RECORDS_IN_A_PART {
-        let string = random.accepted_string();
-        let mut record = ported(&string, 0).fields;
-        for _ in 0..1 + random.below(2) {
-            change_field(&mut record, &mut random);
-        }
-        if random.below(2) == 0 {
-            change_what_stands_behind(&mut record, &mut random);
-        }
+        let string = random.accepted_string(tally.reading);
+        let record = ported(tally.reading, &string, 0).fields;
+        compare_by_brute_force(tally, &changed(record, &mut random));
+    }
+}
+
+/// In a field or two, and half of the time behind those that an encoder wants.
+fn changed(mut record: Record, random: &mut Random) -> Record {
+    for _ in 0..1 + random.below(2) {
+        change_field(&mut record, random);
+    }
+    if random.below(2) == 0 {
+        change_what_stands_behind(&mut record, random);
+    }
+    record
+}
+
+/// What one reading decodes, given to the encoder that goes by the other: as it is, and changed. A record does not tell its reading, so
+/// people will do this. A part is a code.
+fn other_reading(part: usize, tally: &mut Tally) {
+    let [first, second] = named_codes()[part];
+    let other = match tally.reading {
+        Reading::Present => Reading::Manual,
+        Reading::Manual => Reading::Present,
+    };
+    let mut random = Random::of("other reading", part);
+    for _ in 0..RECORDS_OF_A_NAMED_CODE {
+        let string = instruction(other, first, second, &mut random);
+        let record = ported(other, &string, 0).fields;
         compare_by_brute_force(tally, &record);
+        compare_by_brute_force(tally, &changed(record, &mut random));
     }
 }
 
@@ -266,11 +291,11 @@ fn edge_or_any(random: &mut Random) -> u32 {
 fn record_lengths(part: usize, tally: &mut Tally) {
     const MOST: usize = FIELDS + 3;
     let (first, second) = code_of(part);
-    let record = ported(&[first, second, 0, 0, 0, 0, 0], 0).fields;
+    let record = ported(tally.reading, &[first, second, 0, 0, 0, 0, 0], 0).fields;
     let mut numbers = [0xDEAD_BEEF; MOST];
     numbers[..FIELDS].copy_from_slice(&record);
     for count in 0..=MOST {
-        let answer = if count < WANTED { None } else { brute::encode(&record) };
+        let answer = if count < WANTED { None } else { brute::encode(tally.reading, &record) };
         compare(tally, &numbers[..count], answer, WIDE_ROOM);
     }
 }
@@ -278,9 +303,9 @@ fn record_lengths(part: usize, tally: &mut Tally) {
 /// Every place of every buffer up to the longest, and past it. A part is a code.
 fn rooms(part: usize, tally: &mut Tally) {
     let (first, second) = code_of(part);
-    let string = instruction(first, second, &mut Random::of("rooms", part));
-    let record = ported(&string, 0).fields;
-    let answer = brute::encode(&record);
+    let string = instruction(tally.reading, first, second, &mut Random::of("rooms", part));
+    let record = ported(tally.reading, &string, 0).fields;
+    let answer = brute::encode(tally.reading, &record);
     for length in 0..=LONGEST_ROOM {
         for place in (0..=length + 1).chain([usize::MAX - 7, usize::MAX - 1, usize::MAX]) {
             compare(tally, &record, answer, Room { length, place });
@@ -290,17 +315,31 @@ fn rooms(part: usize, tally: &mut Tally) {
 
 // ---- The odd records
 
-/// The hand's answer is compared with the brute force's, and the port's with it.
+const ODD_RECORDS: &str = include_str!("odd-records.txt");
+const ODD_RECORDS_MANUAL: &str = include_str!("odd-records-manual.txt");
+
+/// The hand's answer is compared with the brute force's, and the port's with it. A record of the second file is answered otherwise by the
+/// manual, or is asked by that reading alone; all others are answered alike by both.
 fn odd_records(_part: usize, tally: &mut Tally) {
-    for line in include_str!("odd-records.txt").lines() {
+    let record_in = |line: &'static str| line.split_at(RECORD_DIGITS).0;
+    let by_manual: Vec<&str> = match tally.reading {
+        Reading::Present => Vec::new(),
+        Reading::Manual => ODD_RECORDS_MANUAL.lines().collect(),
+    };
+    let otherwise: HashSet<&str> = by_manual.iter().map(|line| record_in(line)).collect();
+    let alike = ODD_RECORDS.lines().filter(|line| !otherwise.contains(record_in(line)));
+    for line in alike.chain(by_manual) {
         let (record, answer) = odd_record(line).unwrap_or_else(|| panic!("not an odd record: {line}"));
-        if brute::encode(&record) != answer {
+        if brute::encode(tally.reading, &record) != answer {
             tally.count(true, false, || format!("the brute force itself: it answers otherwise than by hand {line}\n"));
         } else {
             compare(tally, &record, answer, WIDE_ROOM);
         }
     }
 }
+
+// Of a line, up to the answer.
+const RECORD_DIGITS: usize = 34;
 
 /// README.md describes the fields.
 fn odd_record(line: &str) -> Option<(Record, Option<Spelling>)> {

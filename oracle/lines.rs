@@ -1,7 +1,8 @@
-// The line's part of the differential run: the port's `m16c_line` beside a line put together from what the oracle answers.
+// The line's part of the differential run: the port's `m16c_line`, or `m16c_line_manual`, beside a line put together from what the oracle
+// answers.
 
 use crate::operands::{is_signed, number_of};
-use crate::{c, code_of, expected, hex, twenty_bit_strings, Kind, Random, Tally, CODES, TOO_LITTLE_ROOM};
+use crate::{c, code_of, expected, functions, hex, twenty_bit_strings, Kind, Random, Reading, Tally, CODES, TOO_LITTLE_ROOM};
 use crate::{DROPPED, LENGTH, OPCODE, OPERANDS, SIZE, WIDTH};
 
 #[rustfmt::skip]
@@ -65,8 +66,8 @@ fn line(at: usize, record: &[u32]) -> String {
     text
 }
 
-fn wanted(image: &[u8], at: usize, room: usize) -> Outcome {
-    let decoded = expected(image.get(at..).unwrap_or(&[]));
+fn wanted(reading: Reading, image: &[u8], at: usize, room: usize) -> Outcome {
+    let decoded = expected(reading, image.get(at..).unwrap_or(&[]));
     let mut outcome = Outcome { refusal: decoded.refusal, length: 0, buffer: [UNTOUCHED; BUFFER] };
     if decoded.refusal != 0 {
         return outcome;
@@ -81,16 +82,16 @@ fn wanted(image: &[u8], at: usize, room: usize) -> Outcome {
     outcome
 }
 
-fn port_writes(image: &[u8], at: usize, room: usize) -> Outcome {
+fn port_writes(reading: Reading, image: &[u8], at: usize, room: usize) -> Outcome {
     let mut outcome = Outcome { refusal: 0, length: usize::MAX, buffer: [UNTOUCHED; BUFFER] };
     let out = &mut outcome.buffer[..room];
-    outcome.refusal =
-        unsafe { c::m16c_line(image.as_ptr(), image.len(), at, out.as_mut_ptr(), out.len(), &mut outcome.length) };
+    let line = functions::of(reading).line;
+    outcome.refusal = unsafe { line(image.as_ptr(), image.len(), at, out.as_mut_ptr(), out.len(), &mut outcome.length) };
     outcome
 }
 
 fn compare(tally: &mut Tally, image: &[u8], at: usize, room: usize) {
-    let (wanted, port) = (wanted(image, at, room), port_writes(image, at, room));
+    let (wanted, port) = (wanted(tally.reading, image, at, room), port_writes(tally.reading, image, at, room));
     tally.count(wanted.refusal == 0, wanted == port, || {
         let text = |Outcome { refusal, length, buffer }: &Outcome| format!("{refusal} length {length:X} {}", buffer.escape_ascii());
         format!("place {at} of {}, room {room}\n  wanted {}\n  port   {}\n", hex(image), text(&wanted), text(&port))
@@ -121,7 +122,7 @@ fn longer_strings(part: usize, tally: &mut Tally) {
 
 /// A part is a code.
 fn last_bytes(part: usize, tally: &mut Tally) {
-    for string in twenty_bit_strings(part) {
+    for string in twenty_bit_strings(tally.reading, part) {
         compare(tally, &string, 0, c::LONGEST_LINE);
     }
 }

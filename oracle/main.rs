@@ -1,5 +1,5 @@
-// The oracle on the command line: answers hex lines from standard input, or prints the stored list, the odd records, or the stored
-// questions about lengths or their answers.
+// The oracle on the command line: answers hex lines from standard input, by the manual if it is told so, or prints the stored list, the odd
+// records of a reading, or the stored questions about lengths or their answers.
 
 mod asked;
 mod images;
@@ -17,10 +17,11 @@ use std::ffi::OsString;
 use std::io::{self, BufRead, Write};
 use std::process::ExitCode;
 
+use oracle::manual::Reading;
 use oracle::Answer;
 
-const USAGE: &str =
-    "usage: oracle [--stored | --odd | --lengths-asked | --lengths-answered]  (without an option: hex lines on standard input)";
+const USAGE: &str = "usage: oracle [--manual | --stored | --odd | --odd-manual | --lengths-asked | --lengths-answered]  \
+    (without an option: hex lines on standard input; with --manual the same, by the manual)";
 
 fn main() -> ExitCode {
     match run() {
@@ -35,9 +36,11 @@ fn main() -> ExitCode {
 fn run() -> Result<(), String> {
     let options: Vec<OsString> = env::args_os().skip(1).collect();
     match options.as_slice() {
-        [] => answer_lines(io::stdin().lock()),
+        [] => answer_lines(Reading::Present, io::stdin().lock()),
+        [option] if option == "--manual" => answer_lines(Reading::Manual, io::stdin().lock()),
         [option] if option == "--stored" => print(&stored::list()?),
-        [option] if option == "--odd" => print(&odd::list()?),
+        [option] if option == "--odd" => print(&odd::list(Reading::Present)?),
+        [option] if option == "--odd-manual" => print(&odd::list(Reading::Manual)?),
         [option] if option == "--lengths-asked" => print(questions::asked()),
         [option] if option == "--lengths-answered" => print(questions::answered()?),
         _ => Err(USAGE.to_string()),
@@ -49,12 +52,12 @@ fn print(output: impl AsRef<[u8]>) -> Result<(), String> {
     written.map_err(|error| format!("standard output: {}", error))
 }
 
-fn answer_lines(input: impl BufRead) -> Result<(), String> {
+fn answer_lines(reading: Reading, input: impl BufRead) -> Result<(), String> {
     for (number, line) in (1..).zip(input.lines()) {
         let line = line.map_err(|error| format!("line {}: {}", number, error))?;
         let bytes = bytes_of_hex(&line)
             .ok_or_else(|| format!("line {}: not pairs of hex digits: {}", number, line))?;
-        print(&answer_line(&bytes))?;
+        print(&answer_line(reading, &bytes))?;
     }
     Ok(())
 }
@@ -77,8 +80,8 @@ fn hex_digit(digit: u8) -> Option<u8> {
     char::from(digit).to_digit(16).map(|value| value as u8)
 }
 
-fn answer_line(bytes: &[u8]) -> String {
-    let answer = oracle::answer(bytes);
+fn answer_line(reading: Reading, bytes: &[u8]) -> String {
+    let answer = reading.answer(bytes);
     let mut line = format!("{} -> {} taken {}", hex_of_bytes(bytes), answer.refusal, answer.taken);
     if answer.refusal == oracle::ACCEPTED {
         line += &format!(
@@ -89,7 +92,7 @@ fn answer_line(bytes: &[u8]) -> String {
             answer.length
         );
     }
-    if answer.refusal == oracle::ACCEPTED && oracle::model::has(bytes[0]) {
+    if answer.refusal == oracle::ACCEPTED && reading.modelled(bytes).is_some() {
         line += &format!(" first {:X} registers {}", answer.first, answer.registers);
     }
     line + "\n"

@@ -62,6 +62,8 @@ pub struct Decoded {
     pub width: Width,
     /// Of `first`, of `dispabs` and of `imm_wide`.
     pub parts: [Part; 3],
+    /// Whether bits of a 20-bit number were dropped: request A7 has none.
+    pub dropped: bool,
 }
 
 /// Whether the request has this first byte.
@@ -74,7 +76,7 @@ pub fn decoded(bytes: &[u8]) -> Option<Decoded> {
     let row = row_of(*bytes.first()?)?;
     Some(match bytes.get(1) {
         Some(second) if length_of(row, *second) <= bytes.len() => accepted(row, *second, bytes),
-        _ => Decoded { answer: refused(EXHAUSTED_INPUT, bytes.len()), width: Width::None, parts: [(0, 0); 3] },
+        _ => Decoded { answer: refused(EXHAUSTED_INPUT, bytes.len()), width: Width::None, parts: [(0, 0); 3], dropped: false },
     })
 }
 
@@ -106,7 +108,7 @@ fn destination(second: u8) -> u8 {
     second & 0xF
 }
 
-fn displacement_bytes(code: u8) -> usize {
+pub fn displacement_bytes(code: u8) -> usize {
     match code {
         0..=7 => 0,
         8..=0xB => 1,
@@ -139,6 +141,7 @@ fn pair(opcode: u8, width: Width, second: u8, bytes: &[u8]) -> Decoded {
         },
         width,
         parts: [first, dispabs, (0, 0)],
+        dropped: false,
     }
 }
 
@@ -160,7 +163,7 @@ fn number(bytes: &[u8], (offset, width): Part) -> u16 {
     (0..width).map(byte).sum()
 }
 
-fn general(code: u8, width: Width) -> u8 {
+pub fn general(code: u8, width: Width) -> u8 {
     let code = usize::from(code);
     match width {
         _ if code >= 4 => OTHERS[code - 4],
@@ -186,5 +189,6 @@ fn list(opcode: u8, second: u8) -> Decoded {
         },
         width: Width::None,
         parts: [(0, 0); 3],
+        dropped: false,
     }
 }

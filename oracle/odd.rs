@@ -1,14 +1,19 @@
-// The odd records as numbers: a line of fixed width for each record of the file `odd-records`.
+// The odd records as numbers: a line of fixed width for each record of the file `odd-records`, or of `odd-records-manual`.
 
 use crate::stored::packed_hex;
+use oracle::manual::Reading;
 use oracle::{OPCODE_NAMES, OPERAND_NAMES, SIZE_NAMES};
 
 const WIDTH_NAMES: &[&str] = &["-", "B", "W"];
 const MOST_BYTES: usize = 7;
 const NO_STRING: u8 = 5;
 
-pub fn list() -> Result<String, String> {
-    let lines = include_str!("odd-records").lines().filter(|line| !line.is_empty() && !line.starts_with('#'));
+pub fn list(reading: Reading) -> Result<String, String> {
+    let records = match reading {
+        Reading::Present => include_str!("odd-records"),
+        Reading::Manual => include_str!("odd-records-manual"),
+    };
+    let lines = records.lines().filter(|line| !line.is_empty() && !line.starts_with('#'));
     lines.map(|line| numbered(line).ok_or_else(|| format!("not an odd record: {}", line))).collect()
 }
 

@@ -5,7 +5,7 @@ use std::sync::OnceLock;
 
 use crate::places::{found, Place, Places};
 use crate::told::{behind, tails};
-use crate::{code_of, expected, hex, ported, Answer, Kind, Random, Tally, CODES};
+use crate::{code_of, expected, hex, ported, Answer, Kind, Random, Reading, Tally, CODES};
 use crate::{DISPABS, DROPPED, FIRST, IMM_WIDE, OFFSETS};
 
 #[rustfmt::skip]
@@ -20,12 +20,12 @@ fn strings(part: usize) -> impl Iterator<Item = [u8; 7]> {
     tails(code).into_iter().map(move |tail| behind(code, tail))
 }
 
-/// By the bytes of the very string. It is a difference too, however the port answers, if the Rust or the model does not read as the request
+/// By the bytes of the very string. It is a difference too, however the port answers, if the Rust or a model does not read as the request
 /// has it.
 fn every_code(part: usize, tally: &mut Tally) {
     for string in strings(part) {
-        let (wanted, port) = (found(&string), told(&ported(&string, 0)));
-        tally.count(expected(&string).refusal == 0, wanted == Ok(port), || {
+        let (wanted, port) = (found(tally.reading, &string), told(&ported(tally.reading, &string, 0)));
+        tally.count(expected(tally.reading, &string).refusal == 0, wanted == Ok(port), || {
             format!("places in {}\n  wanted {wanted:X?}\n  port   {port:X?}\n", hex(&string))
         });
     }
@@ -38,9 +38,10 @@ fn told(port: &Answer) -> Places {
 /// A part is a code: over each of its places, in each string that is accepted.
 fn other_bytes(part: usize, tally: &mut Tally) {
     let mut random = Random::of("other bytes", part);
-    let places = [FIRST, DISPABS, IMM_WIDE].into_iter().zip(places_of(code_of(part).into()));
+    let places = [FIRST, DISPABS, IMM_WIDE].into_iter().zip(places_of(tally.reading, code_of(part).into()));
     let places: Vec<(usize, &Place)> = places.filter(|(_, place)| place.width > 0).collect();
-    for string in strings(part).filter(|string| expected(string).refusal == 0) {
+    let reading = tally.reading;
+    for string in strings(part).filter(|string| expected(reading, string).refusal == 0) {
         for (field, place) in &places {
             for bytes in written(&mut random) {
                 compare_written(tally, &string, *field, **place, bytes);
@@ -59,12 +60,12 @@ fn written(random: &mut Random) -> [[u8; 3]; 4] {
 fn compare_written(tally: &mut Tally, string: &[u8], field: usize, place: Place, bytes: [u8; 3]) {
     let mut changed = string.to_vec();
     changed[place.range()].copy_from_slice(&bytes[..place.width as usize]);
-    let mut wanted = ported(string, 0);
+    let mut wanted = ported(tally.reading, string, 0);
     wanted.fields[field] = place.number(&changed);
     if place.width == 3 {
         wanted.fields[DROPPED] = u32::from(bytes[2] >= 0x10);
     }
-    let port = ported(&changed, 0);
+    let port = ported(tally.reading, &changed, 0);
     tally.count(true, port == wanted, || {
         let [from, to] = [string, &changed[..]].map(hex);
         let [wanted, port] = [wanted, port].map(|Answer { refusal, fields }| format!("{refusal} {fields:X?}"));
@@ -74,13 +75,14 @@ fn compare_written(tally: &mut Tally, string: &[u8], field: usize, place: Place,
 
 /// The places in every accepted string that begins so, from a table, since this is asked for each string: a code has the same places
 /// whatever stands behind it, which is tried above.
-pub fn places_of(code: [u8; 2]) -> &'static Places {
-    static TABLE: OnceLock<Vec<Places>> = OnceLock::new();
-    let table = TABLE.get_or_init(|| (0..=u16::MAX).map(|code| before_zeros(code.to_be_bytes())).collect());
+pub fn places_of(reading: Reading, code: [u8; 2]) -> &'static Places {
+    static TABLES: [OnceLock<Vec<Places>>; 2] = [OnceLock::new(), OnceLock::new()];
+    let of_all = || (0..=u16::MAX).map(|code| before_zeros(reading, code.to_be_bytes())).collect();
+    let table = TABLES[reading as usize].get_or_init(of_all);
     &table[usize::from(u16::from_be_bytes(code))]
 }
 
 /// Zeros are accepted wherever anything is.
-fn before_zeros(code: [u8; 2]) -> Places {
-    found(&behind(code, [0; 5])).unwrap_or_else(|why| panic!("{why}"))
+fn before_zeros(reading: Reading, code: [u8; 2]) -> Places {
+    found(reading, &behind(code, [0; 5])).unwrap_or_else(|why| panic!("{why}"))
 }

@@ -2,6 +2,7 @@
 
 use std::iter::once;
 
+use oracle::manual::Reading;
 use oracle::{answer, FIRST_BYTE_OUTSIDE};
 
 use crate::places::found;
@@ -30,7 +31,7 @@ fn cuts(string: &[u8]) -> impl Iterator<Item = &[u8]> {
 fn stored_line(bytes: &[u8]) -> Result<String, String> {
     let mut padded = bytes.to_vec();
     padded.resize(MOST_BYTES, 0);
-    let [first, dispabs, imm_wide] = found(bytes)?.map(|place| format!("{:X}{:X}", place.offset, place.width));
+    let [first, dispabs, imm_wide] = found(Reading::Present, bytes)?.map(|place| format!("{:X}{:X}", place.offset, place.width));
     let (count, padded, answer) = (bytes.len(), packed_hex(&padded), answer(bytes));
     let line = format!("P{count} {padded} {} {first} {dispabs} {imm_wide} {:X}", answer.refusal, answer.registers);
     Ok(format!("{line:48}\n"))

@@ -1,11 +1,13 @@
-// Where the numbers of an instruction stand, by request A5, found from decoding alone, the Rust's or for request A7's first bytes the
+// Where the numbers of an instruction stand, by request A5, found from decoding alone, the Rust's or, where a model has the code, the
 // model's: it is asked again with bits of each byte behind the second flipped, and the field that changes is the one that the byte was read
-// for. The Rust's nine decoders do not keep the earlier of two displacements: a byte of theirs that changes nothing is one of `first`. The
+// for. The Rust's nine decoders do not keep the earlier of two displacements: a byte of theirs that changes nothing is one of `first`. A
 // model keeps it, so a byte that changes nothing there would be read for nothing; and it says itself where its numbers stand.
 
 use std::ops::Range;
 
-use oracle::{answer, model, Answer, ACCEPTED};
+use oracle::manual::Reading;
+use oracle::model::Decoded;
+use oracle::{Answer, ACCEPTED};
 
 /// The bytes of a number, from an instruction's first byte on; zeros if no byte behind the second was read for it.
 #[derive(Debug, Clone, Copy, Default, PartialEq, Eq)]
@@ -38,12 +40,12 @@ enum Use {
 }
 
 /// Zeros of what is refused. An error where decoding does not read as the request has it.
-pub fn found(string: &[u8]) -> Result<Places, String> {
-    let plain = answer(string);
+pub fn found(reading: Reading, string: &[u8]) -> Result<Places, String> {
+    let plain = reading.answer(string);
     if plain.refusal != ACCEPTED {
         return Ok(Places::default());
     }
-    let uses: Vec<Use> = (2..plain.taken).map(|place| use_of(string, &plain, place)).collect::<Result<_, _>>()?;
+    let uses: Vec<Use> = (2..plain.taken).map(|place| use_of(reading, string, &plain, place)).collect::<Result<_, _>>()?;
     let conditions = uses.iter().filter(|found| **found == Use::Condition).count();
     if conditions != usize::from(has_condition(string)) {
         return Err(format!("{string:02X?}: {conditions} bytes are read for no number"));
@@ -54,14 +56,14 @@ pub fn found(string: &[u8]) -> Result<Places, String> {
     if dispabs.number(string) != u32::from(plain.dispabs) || !in_code && imm_wide.number(string) != plain.imm_wide {
         return Err(format!("{string:02X?}: the bytes at {places:X?} are not the numbers decoded"));
     }
-    match model::decoded(string) {
+    match reading.modelled(string) {
         Some(decoded) => as_said(places, string, &decoded),
         None => Ok(places),
     }
 }
 
 /// The same places, if the model says so too and keeps in `first` what stands there.
-fn as_said(places: Places, string: &[u8], decoded: &model::Decoded) -> Result<Places, String> {
+fn as_said(places: Places, string: &[u8], decoded: &Decoded) -> Result<Places, String> {
     let found = places.map(|place| (place.offset, place.width));
     if found != decoded.parts || places[0].number(string) != u32::from(decoded.answer.first) {
         return Err(format!("{string:02X?}: found {found:X?}, the model says {decoded:X?}"));
@@ -74,11 +76,11 @@ fn has_condition(string: &[u8]) -> bool {
     string[0] == 0x7E && string[1] >> 4 == 2
 }
 
-fn use_of(string: &[u8], plain: &Answer, place: usize) -> Result<Use, String> {
+fn use_of(reading: Reading, string: &[u8], plain: &Answer, place: usize) -> Result<Use, String> {
     let flipped = |bit: u32| {
         let mut other = string.to_vec();
         other[place] ^= 1 << bit;
-        answer(&other)
+        reading.answer(&other)
     };
     let answers: Vec<Answer> = (0..8).map(flipped).collect();
     let names = |answer: &Answer| (answer.refusal, answer.opcode, answer.size, answer.operands, answer.length, answer.registers);
@@ -86,7 +88,7 @@ fn use_of(string: &[u8], plain: &Answer, place: usize) -> Result<Use, String> {
         return Ok(Use::Condition);
     }
     let changes = |number: fn(&Answer) -> u32| answers.iter().any(|answer| number(answer) != number(plain));
-    let keeps_first = model::has(string[0]);
+    let keeps_first = reading.modelled(string).is_some();
     match (changes(|answer| answer.first.into()), changes(|answer| answer.dispabs.into()), changes(|answer| answer.imm_wide)) {
         (false, false, false) if keeps_first => Err(format!("{string:02X?}: byte {place} is read for nothing")),
         (false, false, false) | (true, false, false) => Ok(Use::First),

@@ -21,6 +21,11 @@ pub const KINDS: &[Kind] = &[
     Kind { name: "lengths to tell", quick_parts: 1, all_parts: 1, run_part: told_lengths },
 ];
 
+#[rustfmt::skip]
+pub const KINDS_BY_MANUAL: &[Kind] = &[
+    Kind { name: "records to encode", quick_parts: 1, all_parts: 1, run_part: records_by_manual },
+];
+
 const STORED: &str = include_str!("../crates/replay/stdin");
 const LENGTHS_ASKED: &[u8] = include_bytes!("../crates/list_lengths/stdin");
 const LENGTHS_ANSWERED: &str = include_str!("../crates/list_lengths/stdout");
@@ -66,7 +71,7 @@ fn strings(_part: usize, tally: &mut Tally) {
         wanted[DISPABS] = number(dispabs);
         wanted[LENGTH] = number(length);
         let string = bytes(string, number(count));
-        let mut port = ported(&string, 0);
+        let mut port = ported(tally.reading, &string, 0);
         // What the Rust does not have is not stored in these lines.
         for free in [WIDTH, FIRST, MARKED].into_iter().chain(DROPPED..FIELDS) {
             port.fields[free] = 0;
@@ -86,7 +91,15 @@ fn record(names: &str, imm_wide: &str, fields: &str) -> [u32; FIELDS] {
 }
 
 fn records(_part: usize, tally: &mut Tally) {
-    for words in lines(|first| first == 'E') {
+    records_of(lines(|first| first == 'E'), tally);
+}
+
+fn records_by_manual(_part: usize, tally: &mut Tally) {
+    records_of(lines(|first| first == 'M'), tally);
+}
+
+fn records_of(lines: impl Iterator<Item = Vec<&'static str>>, tally: &mut Tally) {
+    for words in lines {
         let [names, imm_wide, fields, refusal, length, encoding] = words[..] else {
             panic!("a stored record has six words: {words:?}");
         };
@@ -129,7 +142,7 @@ fn swept(words: &[&str]) -> (Vec<u8>, [usize; 4], Vec<u16>) {
 }
 
 fn compare_sweep(tally: &mut Tally, rule: Rule, image: &[u8], wanted: Swept) {
-    let port = sweeps::ported(rule, image, image.len());
+    let port = sweeps::ported(tally.reading, rule, image, image.len());
     tally.count(wanted.refusal == 0, port == wanted, || {
         format!("{rule:?}, {}\n  stored {wanted:X?}\n  port   {port:X?}\n", hex(image))
     });
@@ -152,7 +165,7 @@ fn places(_part: usize, tally: &mut Tally) {
             panic!("a stored string with places has seven words: {words:?}");
         };
         let string = bytes(string, number(&count[1..]));
-        let port = ported(&string, 0);
+        let port = ported(tally.reading, &string, 0);
         let wanted = [first, dispabs, imm_wide].map(|place| numbers(place, [1, 1]));
         let told = OFFSETS.map(|at| [port.fields[at], port.fields[at + 1]]);
         let found = port.fields[REGISTERS];

@@ -3,6 +3,7 @@
 use std::collections::BTreeSet;
 use std::fmt::Write;
 
+use oracle::manual::Reading;
 use oracle::{answer, model};
 
 use crate::{asked, images, odd, placed};
@@ -24,23 +25,27 @@ const BEFORE_CONDITION: [u8; 2] = [0x90, 0x7F];
 const BENCH_LINES: [&[u8]; 4] =
     [&[0x74, 0x7E, 0xFF, 0x00], &[0x74, 0x7A, 0xFF], &[0x74, 0x7E, 0x00, 0x01], &[0x7D, 0x0C, 0x10, 0x00, 0x00]];
 
-/// Strings to decode, records to encode, images to sweep by both rules, records with an operand to ask for, and strings whose numbers are to
+/// Strings to decode, records to encode by both readings, images to sweep by both rules, records with an operand to ask for, and strings whose numbers are to
 /// be placed.
 pub fn list() -> Result<String, String> {
     let strings: Vec<Vec<u8>> = strings().into_iter().collect();
     let decoded: String = strings.iter().map(|bytes| stored_line(bytes)).collect();
-    let encoded: String = odd::list()?.lines().map(encoded_line).collect();
+    let encoded = encoded('E', Reading::Present)? + &encoded('M', Reading::Manual)?;
     Ok(decoded + &encoded + &images::list(&strings) + &asked::list() + &placed::list()?)
 }
 
+fn encoded(letter: char, reading: Reading) -> Result<String, String> {
+    Ok(odd::list(reading)?.lines().map(|odd_record| encoded_line(letter, odd_record)).collect())
+}
+
 // An odd record's line at the width of the others.
-fn encoded_line(odd_record: &str) -> String {
+fn encoded_line(letter: char, odd_record: &str) -> String {
     let words: Vec<&str> = odd_record.split(' ').collect();
     let (names, numbers) = words.split_at(6);
     let [imm_wide, dispabs, first, answer @ ..] = numbers else {
         unreachable!("an odd record has twelve words");
     };
-    format!("E{} {} {}{} {}\n", names.concat(), imm_wide, dispabs, first, answer.join(" "))
+    format!("{}{} {} {}{} {}\n", letter, names.concat(), imm_wide, dispabs, first, answer.join(" "))
 }
 
 // A set, so that no string comes twice whichever rule below chose it.

@@ -1,8 +1,9 @@
-// The sweep's part of the differential run: the port's `m16c_sweep` and `m16c_sweep_stopping` beside the oracle asked again and again.
+// The sweep's part of the differential run: the port's `m16c_sweep` and `m16c_sweep_stopping`, or `m16c_sweep_manual` and
+// `m16c_sweep_manual_stopping`, beside the oracle asked again and again.
 
-use crate::c::{self, LONGEST_IMAGE};
+use crate::c::LONGEST_IMAGE;
 use crate::known::{reading_most, RULES_IMAGE};
-use crate::{code_of, expected, hex, Kind, Random, Tally, CODES, TAKEN, TOO_LITTLE_ROOM};
+use crate::{code_of, expected, functions, hex, named_codes, Kind, Random, Reading, Tally, CODES, TAKEN, TOO_LITTLE_ROOM};
 
 const IMAGE_TOO_LONG: u32 = 7;
 
@@ -17,6 +18,7 @@ pub const KINDS: &[Kind] = &[
     Kind { name: "images of one byte, again and again", quick_parts: 256, all_parts: 256, run_part: images_of_one_byte },
     Kind { name: "images about as long as may be, and longer", quick_parts: 50, all_parts: 500, run_part: long_images },
     Kind { name: "images of late refusals, cut short at the end", quick_parts: 100, all_parts: 1000, run_part: images_of_late_refusals },
+    Kind { name: "images of request A9's codes", quick_parts: 100, all_parts: 1000, run_part: images_of_named_codes },
     Kind { name: "images of which the most is read", quick_parts: 1, all_parts: 1, run_part: images_read_most },
     Kind { name: "up to 6 of some bytes, every one, going on", quick_parts: SOME_FIRSTS, all_parts: SOME_FIRSTS, run_part: short_images },
 ];
@@ -46,7 +48,7 @@ pub struct Swept {
 pub const NO_START: u16 = 0xDEAD;
 const UNWRITTEN: usize = 0xDEAD_BEEF;
 
-fn repeated(rule: Rule, image: &[u8], room: usize) -> Swept {
+fn repeated(reading: Reading, rule: Rule, image: &[u8], room: usize) -> Swept {
     let mut swept = Swept { refusal: 0, count: 0, place: 0, refused: 0, read: 0, starts: vec![NO_START; room] };
     if image.len() > LONGEST_IMAGE {
         return Swept { refusal: IMAGE_TOO_LONG, ..swept };
@@ -55,7 +57,7 @@ fn repeated(rule: Rule, image: &[u8], room: usize) -> Swept {
         return Swept { refusal: TOO_LITTLE_ROOM, ..swept };
     }
     while swept.place < image.len() {
-        let decoded = expected(&image[swept.place..]);
+        let decoded = expected(reading, &image[swept.place..]);
         let taken = decoded.fields[TAKEN] as usize;
         swept.read += taken;
         match (decoded.refusal, rule) {
@@ -74,10 +76,10 @@ fn repeated(rule: Rule, image: &[u8], room: usize) -> Swept {
     swept
 }
 
-pub fn ported(rule: Rule, image: &[u8], room: usize) -> Swept {
-    let sweep: c::Sweep = match rule {
-        Rule::GoOn => c::m16c_sweep,
-        Rule::Stop => c::m16c_sweep_stopping,
+pub fn ported(reading: Reading, rule: Rule, image: &[u8], room: usize) -> Swept {
+    let sweep = match rule {
+        Rule::GoOn => functions::of(reading).sweep,
+        Rule::Stop => functions::of(reading).sweep_stopping,
     };
     let (mut count, mut place, mut refused, mut read) = (UNWRITTEN, UNWRITTEN, UNWRITTEN, UNWRITTEN);
     let mut starts = vec![NO_START; room];
@@ -98,7 +100,8 @@ fn compare(tally: &mut Tally, image: &[u8]) {
 
 /// The port with the oracle, and what the oracle reads with the most that any sweep does.
 fn compare_by(tally: &mut Tally, rule: Rule, image: &[u8], room: usize) {
-    let (wanted, port) = (repeated(rule, image, room), ported(rule, image, room));
+    let reading = tally.reading;
+    let (wanted, port) = (repeated(reading, rule, image, room), ported(reading, rule, image, room));
     let most = most_read(rule, image.len());
     tally.count(wanted.refusal == 0, wanted == port && wanted.read <= most, || {
         let passed = if wanted.read > most { format!("decoding reads {} bytes, over {most}: ", wanted.read) } else { String::new() };
@@ -124,11 +127,13 @@ fn image_of_the_rules(_part: usize, tally: &mut Tally) {
 
 /// Packed are all of them; the accepted ones, since a refused one would end every stopping sweep; and these without bytes to spare.
 fn stored_images(_part: usize, tally: &mut Tally) {
+    let reading = tally.reading;
     let is_string = |line: &&str| line.starts_with(|c: char| c.is_ascii_digit());
     let stored = include_str!("../crates/replay/stdin").lines().filter(is_string).map(stored_bytes);
     let strings: Vec<Vec<u8>> = stored.collect();
-    let accepted: Vec<Vec<u8>> = strings.iter().filter(|string| expected(string).refusal == 0).cloned().collect();
-    let taken = |string: &Vec<u8>| string[..expected(string).fields[TAKEN] as usize].to_vec();
+    let decoded = |string: &[u8]| expected(reading, string);
+    let accepted: Vec<Vec<u8>> = strings.iter().filter(|string| decoded(string).refusal == 0).cloned().collect();
+    let taken = |string: &Vec<u8>| string[..decoded(string).fields[TAKEN] as usize].to_vec();
     let whole: Vec<Vec<u8>> = accepted.iter().map(taken).collect();
     for image in [&strings, &packed(&strings), &packed(&accepted), &packed(&whole)].into_iter().flatten() {
         compare(tally, image);
@@ -157,7 +162,7 @@ fn images_of_instructions(part: usize, tally: &mut Tally) {
     let mut random = Random::of("images of instructions", part);
     for _ in 0..IMAGES_IN_A_PART {
         let length = random.below(200);
-        let mut image = instructions(length, &mut random);
+        let mut image = instructions(tally.reading, length, &mut random);
         if random.below(2) == 0 && !image.is_empty() {
             let place = random.below(image.len());
             image[place] = random.byte();
@@ -167,10 +172,10 @@ fn images_of_instructions(part: usize, tally: &mut Tally) {
 }
 
 /// Whole instructions, at least this many bytes.
-fn instructions(length: usize, random: &mut Random) -> Vec<u8> {
+fn instructions(reading: Reading, length: usize, random: &mut Random) -> Vec<u8> {
     let mut image = Vec::new();
     while image.len() < length {
-        image.extend(random.accepted_string());
+        image.extend(random.accepted_string(reading));
     }
     image
 }
@@ -179,18 +184,18 @@ fn mixed_images(part: usize, tally: &mut Tally) {
     let mut random = Random::of("mixed images", part);
     for _ in 0..IMAGES_IN_A_PART {
         let length = random.below(200);
-        compare(tally, &mixed(length, &mut random));
+        compare(tally, &mixed(tally.reading, length, &mut random));
     }
 }
 
 /// Instructions, and between them what is refused: strings, and bytes that mostly begin nothing. At least this many bytes.
-fn mixed(length: usize, random: &mut Random) -> Vec<u8> {
+fn mixed(reading: Reading, length: usize, random: &mut Random) -> Vec<u8> {
     let mut image = Vec::new();
     while image.len() < length {
         image.extend(match random.below(4) {
-            0 => random.refused_string(),
+            0 => random.refused_string(reading),
             1 => vec![random.byte()],
-            _ => random.accepted_string(),
+            _ => random.accepted_string(reading),
         });
     }
     image
@@ -227,9 +232,9 @@ fn images_of_one_byte(part: usize, tally: &mut Tally) {
 fn long_images(part: usize, tally: &mut Tally) {
     const MOST: usize = LONGEST_IMAGE + 200;
     let mut random = Random::of("long images", part);
-    let image = instructions(MOST, &mut random);
+    let image = instructions(tally.reading, MOST, &mut random);
     let at_random = LONGEST_IMAGE - 100 + random.below(200);
-    for image in [image, mixed(MOST, &mut random), bytes(MOST, &mut random)] {
+    for image in [image, mixed(tally.reading, MOST, &mut random), bytes(MOST, &mut random)] {
         for length in [LONGEST_IMAGE - 1, LONGEST_IMAGE, LONGEST_IMAGE + 1, at_random] {
             compare(tally, &image[..length]);
         }
@@ -238,15 +243,15 @@ fn long_images(part: usize, tally: &mut Tally) {
 
 fn images_of_late_refusals(part: usize, tally: &mut Tally) {
     let mut random = Random::of("late refusals", part);
-    let codes = late_codes();
+    let codes = late_codes(tally.reading);
     for _ in 0..IMAGES_IN_A_PART {
         let length = random.below(200);
-        compare(tally, &late_refusals(length, &codes, &mut random));
+        compare(tally, &late_refusals(tally.reading, length, &codes, &mut random));
     }
 }
 
 /// Late codes, each of which takes bytes of those behind it, and bytes between them. At least this many bytes, then an instruction cut short.
-fn late_refusals(length: usize, codes: &[[u8; 2]], random: &mut Random) -> Vec<u8> {
+fn late_refusals(reading: Reading, length: usize, codes: &[[u8; 2]], random: &mut Random) -> Vec<u8> {
     let mut image = Vec::new();
     while image.len() < length {
         match random.below(8) {
@@ -255,19 +260,35 @@ fn late_refusals(length: usize, codes: &[[u8; 2]], random: &mut Random) -> Vec<u
             _ => image.extend(codes[random.below(codes.len())]),
         }
     }
-    let end = random.accepted_string();
+    let end = random.accepted_string(reading);
     image.extend(&end[..end.len() - 1]);
     image
 }
 
 /// Codes that are refused after four bytes or five, where these are no conditions.
-fn late_codes() -> Vec<[u8; 2]> {
+fn late_codes(reading: Reading) -> Vec<[u8; 2]> {
     const NO_CONDITION: u8 = 0x07;
     let is_late = |code: &[u8; 2]| {
-        let decoded = expected(&[code, &[NO_CONDITION; 5][..]].concat());
+        let decoded = expected(reading, &[code, &[NO_CONDITION; 5][..]].concat());
         decoded.refusal != 0 && decoded.fields[TAKEN] >= 4
     };
     (0..CODES).map(|code| code_of(code).into()).filter(is_late).collect()
+}
+
+/// Each with fewer bytes behind it than it may want, or with more, so that what one reading takes is not what the other does.
+fn images_of_named_codes(part: usize, tally: &mut Tally) {
+    let mut random = Random::of("named codes", part);
+    let codes = named_codes();
+    for _ in 0..IMAGES_IN_A_PART {
+        let length = random.below(200);
+        let mut image = Vec::new();
+        while image.len() < length {
+            image.extend(codes[random.below(codes.len())]);
+            let behind = random.below(5);
+            image.extend(bytes(behind, &mut random));
+        }
+        compare(tally, &image);
+    }
 }
 
 fn images_read_most(_part: usize, tally: &mut Tally) {

@@ -1,7 +1,10 @@
 # Sourced by scripts that use the static library; kit.sh and progress.sh are sourced before.
 # M16C_LIBRARY in the environment names an archive to take, instead of building one below target/library.
 
-c_functions="m16c_decode m16c_encode m16c_sweep m16c_sweep_stopping m16c_line m16c_length m16c_operand_number"
+# By document 01, and those by the manual, which request A9 added.
+document_functions="m16c_decode m16c_encode m16c_sweep m16c_sweep_stopping m16c_line m16c_length m16c_operand_number"
+manual_functions="m16c_decode_manual m16c_encode_manual m16c_sweep_manual m16c_sweep_manual_stopping m16c_line_manual"
+c_functions="$document_functions $manual_functions"
 
 # Which archive is built: fast or small. Scripts that take --small set it.
 form=fast
@@ -18,8 +21,11 @@ take_form() {
 # The crates of an archive, an object each: docs/DECISIONS.md says why these.
 crates_of() {
     case $1 in
-    fast) echo "m16c_decode m16c_encode m16c_sweep m16c_line m16c_length m16c_operand_number" ;;
-    small) echo "m16c_small m16c_sweep" ;;
+    fast)
+        echo "m16c_decode m16c_encode m16c_encode_manual m16c_sweep m16c_sweep_manual m16c_line m16c_line_manual m16c_length" \
+            "m16c_operand_number"
+        ;;
+    small) echo "m16c_small m16c_sweep m16c_small_manual m16c_sweep_manual" ;;
     esac
 }
 
@@ -46,7 +52,7 @@ build_library() {
 check_library() {
     [ -r "$library" ] || fail "M16C_LIBRARY: no such archive: $library"
     for function in $c_functions; do
-        grep -q "$function" "$library" || fail "the library has no function $function: $library"
+        grep -q -w "$function" "$library" || fail "the library has no function $function: $library"
     done
 }
 

@@ -4,15 +4,21 @@ import re
 import subprocess
 
 from model import LONGEST_IMAGE, Model, Record
-from page import BITS, STOP, Differs, plain
+from page import BITS, STOP, Differs, bytes_in, plain
 
 RECORD = "crates/record/src/lib.rt"
 HEADER = "include/m16c.h"
 COUNTS = "crates/rows/proofs/Counts.antt"
+CHANGES = "crates/by_manual/proofs/Changes.antt"
 HELD = "crates/manual/proofs/Held.antt"
 REGISTERS = "docs/manual/lists.tsv"
 ANSWERS = "crates/replay/stdin"
 PROVED = ["ends 0", "λ a b. both (ends 0 a b) (markedAt a b)", "ends 2", "ends 3", "λ a b. both (ends 3 a b) (readsAt a b)"]
+PROVED_CHANGED = "listedIn namedCode"
+PROVED_OF_CHANGED = ["not (alike (document01 .rowAt a b) (byManual .rowAt a b))",
+                     "both (acceptedBy document01 a b) (acceptedBy byManual a b)",
+                     "both (not (acceptedBy document01 a b)) (acceptedBy byManual a b)",
+                     "either (acceptedBy document01 a b) (acceptedBy byManual a b)"]
 
 
 def read(path):
@@ -40,29 +46,34 @@ class Names:
 
 
 def check(page):
-    model, names = Model(page), Names()
-    check_answers(page, model, names)
+    model, manual, names = Model(page), Model(page.by_manual()), Names()
+    check_answers(page, model, manual, names)
     check_marks(page)
-    check_listings(model)
-    check_lengths(page, model)
-    check_names(page, names)
+    check_listings(model, manual)
+    check_lengths(page, model, manual)
+    check_names(page, names, r"have a number in the header and no row of document 01: ([^.]*)\.")
+    check_names(page.by_manual(), names, r"By the manual these have none: ([^.]*)\.")
     check_counts(page)
+    check_changed(page)
     check_header(page)
     check_registers(page)
     check_examples(page, model)
-    check_placed(page, model)
-    check_read(page, model)
+    check_examples_by_manual(page, model, manual)
+    check_mixed(page, model, manual)
+    check_placed(page, model, manual)
+    check_read(page, model, manual)
+    check_twins(page, model, manual)
 
 
-def check_names(page, names):
-    """The page's names are the record's, and those without a row are listed."""
-    codes = page.codes.values()
+def check_names(page, names, form):
+    """The page's names are the record's, and those without a row that accepts are listed."""
+    codes = [c for c in page.codes.values() if not c.refusal]
     opcodes = {c.opcode for c in codes if c.opcode} | set(page.conditions.values())
     operands = {name for c in codes for name in c.operands}
     for kind, said, known in (("opcode", opcodes, names.opcodes), ("operand", operands | set(page.fields) | set(page.bases), names.operands)):
         for name in sorted(said - set(known)):
             raise Differs(f"{page.path}: no {kind} of {RECORD} is called {name}")
-    listed = re.search(r"have a number in the header and no row: ([^.]*)\.", page.text)
+    listed = re.search(form, page.text)
     unused = [n for n in names.opcodes if n not in opcodes], [n for n in names.operands if n not in operands]
     same(f"{RECORD}, names without a row", listed and listed[1], "; ".join(", ".join(part) for part in unused if part))
 
@@ -90,17 +101,51 @@ def proved(path, what):
     return int(found[1])
 
 
+def counts_in(page, form):
+    """The counts in a sentence of the page."""
+    found = re.search(form, page.text)
+    if found is None:
+        raise Differs(f"{page.path}: no sentence has the form '{form}'")
+    return [plain(n) for n in found.groups()]
+
+
 def check_counts(page):
     """The counts in the page's words, those that are proved, and those of the page's rows."""
-    said = re.search(r"Of the ([\d,]+) codes, ([\d,]+) are accepted, (\d+) of these marked; (\d+) are always refused with 2 and (\d+) with 3, (\d+) of", page.text)
-    said = [plain(n) for n in said.groups()] if said else None
-    ends = {end: [c for c in page.codes.values() if dict(c.steps).get(STOP, 0) == end] for end in (0, 2, 3)}
+    said = counts_in(page, r"Of the ([\d,]+) codes, ([\d,]+) are accepted, (\d+) of these marked; (\d+) are always refused with 2 and "
+                           r"(\d+) with 3, (\d+) of")
+    ends = {end: [c for c in page.codes.values() if c.refusal == end] for end in (0, 2, 3)}
     late = [c for c in ends[3] if c.steps[0][0] != STOP]
     rows = [len(c) for c in (page.codes, ends[0], [c for c in ends[0] if c.marked], ends[2], ends[3], late)]
     same("the rows of docs/FORMAT.md, counted", said, rows)
     same(COUNTS, said[1:], [proved(COUNTS, f"countCodes ({what})") for what in PROVED])
-    meant = re.search(r"The manual gives a meaning to ([\d,]+)\.", page.text)
-    same(f"{HELD}, codes with a meaning", meant and plain(meant[1]), proved(HELD, "meanings : count"))
+    same(f"{HELD}, codes with a meaning", counts_in(page, r"The manual gives a meaning to ([\d,]+)\."), [proved(HELD, "meanings : count")])
+
+
+def check_changed(page):
+    """The changed rows were marked or refused, and are unmarked; the counts in the page's words, those of both tables, and those proved."""
+    pairs = [(page.codes[code], changed) for code, changed in page.changed.items()]
+    for before, changed in pairs:
+        if changed.marked or not (before.marked or before.refusal):
+            raise Differs(f"{page.path}, line {changed.line}: a row that is marked, or that was not marked in line {before.line}")
+    said = counts_in(page, r"(\d+) codes are changed, (\d+) of them in more than the mark; (\d+) are accepted by both readings, "
+                           r"(\d+) by the manual's alone \([^)]*\), and the other (\d+) are refused by both with the same answer, "
+                           r"though (\d+) of")
+    same("the changed rows of docs/FORMAT.md, counted", said, changed_counts(pairs))
+    whats = [PROVED_CHANGED] + [f"λ a b. both ({PROVED_CHANGED} a b) ({what})" for what in PROVED_OF_CHANGED]
+    same(CHANGES, [*said[:4], said[0] - said[4]], [proved(CHANGES, f"countCodes ({what})") for what in whats])
+    accepted = [c for c in page.by_manual().codes.values() if not c.refusal]
+    said = counts_in(page, r"By the manual ([\d,]+) codes are accepted, (\d+) of these marked")
+    same("the rows by the manual, counted", said, [len(accepted), len([c for c in accepted if c.marked])])
+
+
+def changed_counts(pairs):
+    """All; those that differ in more than the mark; accepted by both; by the second alone; refused alike; of these, those that differ."""
+    unlike = [before.said() != changed.said() for before, changed in pairs]
+    both = [not before.refusal and not changed.refusal for before, changed in pairs]
+    alone = [before.refusal and not changed.refusal for before, changed in pairs]
+    alike = [before.refusal and before.steps == changed.steps for before, changed in pairs]
+    hidden = [one and other for one, other in zip(unlike, alike)]
+    return [len(pairs), *(sum(map(bool, tests)) for tests in (unlike, both, alone, alike, hidden))]
 
 
 def check_marks(page):
@@ -108,17 +153,17 @@ def check_marks(page):
     classes = subprocess.run(["scripts/codes-svg", "--classes"], stdout=subprocess.PIPE, text=True, check=True).stdout
     for code, number in (line.split() for line in sorted(classes.splitlines())):
         row = page.codes[int(code[:2], 16), int(code[2:], 16)]
-        said = "refused" if STOP in dict(row.steps) else "marked" if row.marked else "unmarked"
+        said = "refused" if row.refusal else "marked" if row.marked else "unmarked"
         same(f"{code[:2]} {code[2:]}, line {row.line} of docs/FORMAT.md", said, ["unmarked", "marked", "refused"][(int(number) - 1) // 2])
 
 
-def check_answers(page, model, names):
+def check_answers(page, model, manual, names):
     """Every line of the stored list; oracle/README.md has their forms. Every code is among them, with enough bytes, and with its parts."""
     unseen, unplaced = set(page.codes), set(page.codes)
     for number, line in enumerate(read(ANSWERS).splitlines(), 1):
         where = f"{ANSWERS}, line {number}"
-        if line[0] == "E":
-            check_encoding(where, model, names, line)
+        if line[0] in "EM":
+            check_encoding(where, model if line[0] == "E" else manual, names, line)
         elif line[0] in "SG":
             check_sweep(where, model, line)
         elif line[0] == "N":
@@ -195,22 +240,23 @@ def check_sweep(where, model, line):
     same(f"{where}: refusal, starts, place, refused, read", model.sweep(image, stopping), told)
 
 
-def check_listings(model):
-    """The one image is listed by the rule of its args, each of the many by the byte before it: 0 goes on, 1 stops."""
+def check_listings(model, manual):
+    """The one image is listed by its args, each of the many by the byte before it: an odd one stops, from 2 on it is by the manual."""
+    words = read("crates/list_image/args").split()
     with open("crates/list_image/stdin", "rb") as f:
-        same_listing("crates/list_image/stdout", model.listing(f.read(), read("crates/list_image/args") == "--stopping\n"))
+        same_listing("crates/list_image/stdout", (manual if "--manual" in words else model).listing(f.read(), "--stopping" in words))
     with open("crates/list_images/stdin", "rb") as f:
         text = f.read()
     lines, at = [], 0
     while at < len(text):
         end = at + 3 + int.from_bytes(text[at + 1:at + 3], "big")
-        lines += model.listing(text[at + 3:end], text[at] == 1)
+        lines += (manual if text[at] >= 2 else model).listing(text[at + 3:end], text[at] % 2 == 1)
         at = end
     same_listing("crates/list_images/stdout", lines)
 
 
-def check_lengths(page, model):
-    """The stored lengths, each of three bytes that ask for it, and how many codes have which."""
+def check_lengths(page, model, manual):
+    """The stored lengths, each of three bytes that ask for it, how many codes have which, and how many another by the manual."""
     with open("crates/list_lengths/stdin", "rb") as f:
         text = f.read()
     told = [model.length(text[at + 1:at + 1 + text[at]]) for at in range(0, len(text), 3)]
@@ -221,6 +267,14 @@ def check_lengths(page, model):
         answer = (number, 0) if "refusal" in line["answer"] else (0, number)
         same(f"{page.path}, line {line.number}, by the rows", plain(line["codes"]), found.count(answer))
     same(f"{page.path}, codes with a length or a refusal", sum(plain(line["codes"]) for line in page.table("The length from two bytes", 1)), len(found))
+    others = [length for code, length in zip(page.codes, found) if length != manual.length(code)]
+    said = counts_in(page, r"By the manual (\d+) codes have another length, and (\d+) that it refuses have one")
+    same(f"{page.path}, lengths by the manual", said, [len([o for o in others if o[1]]), len([o for o in others if not o[1]])])
+    for reading in (model, manual):
+        for code in page.codes:
+            answer = reading.decode(bytes(code) + bytes(5))
+            where = f"{page.path}, {bytes(code).hex(' ').upper()} and five zeros"
+            same(where, (answer.refusal, answer.record.length), reading.length(code))
 
 
 def same_listing(path, lines):
@@ -241,34 +295,91 @@ def check_registers(page):
         same(f"{page.path}, line {line.number}, by the tables", said, (" ".join(named) or "(none)", str(len(named))))
 
 
-def check_placed(page, model):
-    """The examples of where numbers stand."""
-    for line in page.table("Where the numbers stand"):
-        r = model.decode(bytes.fromhex(line["bytes"])).record
-        said = (line["line"], line["FIRST"], line["DISPABS"], line["IMM_WIDE"])
-        parts = (f"{offset}, {width} byte" + "s" * (width > 1) if width else "" for offset, width in r.parts)
-        same(f"{page.path}, line {line.number}, by the tables", said, (model.line(0, r).split(" ", 3)[3], *parts))
+def check_placed(page, model, manual):
+    """The examples of where numbers stand, by each reading."""
+    for place, reading in enumerate((model, manual)):
+        for line in page.table("Where the numbers stand", place):
+            r = reading.decode(bytes.fromhex(line["bytes"])).record
+            said = (line["line"], line["FIRST"], line["DISPABS"], line["IMM_WIDE"])
+            parts = (f"{offset}, {width} byte" + "s" * (width > 1) if width else "" for offset, width in r.parts)
+            same(f"{page.path}, line {line.number}, by the tables", said, (from_opcode(reading, r), *parts))
 
 
-def check_read(page, model):
-    """The images of which the page tells how much is read: alone, and behind `7E 2C` again and again."""
+def from_opcode(model, record):
+    """The line of a record from the opcode on."""
+    return model.line(0, record).split(" ", 3)[3]
+
+
+def check_read(page, model, manual):
+    """The images of which the page tells how much is read, by each reading: alone, and behind `7E 2C` again and again."""
     told = re.findall(r"`([0-9A-F ]+)` alone reads ([\d +]+) = (\d+)", page.text)
     if len(told) != 2:
         raise Differs(f"{page.path}: it does not tell of two images what is read of them")
     for text, parts, sum_said in told:
         image = bytes.fromhex(text)
-        taken = [answer.taken for _, answer in model.places(image, stopping=False)]
-        same(f"{page.path}, {text}", (parts, int(sum_said)), (" + ".join(map(str, taken)), sum(taken)))
-        for times in range(1, 20):
-            whole = bytes.fromhex("7E 2C" * times) + image
-            same(f"{page.path}, {text} behind 7E 2C, {times} times", 3 * len(whole) - (len(whole) + 1) % 2, model.sweep(whole, stopping=False)[-1])
+        for reading in (model, manual):
+            taken = [answer.taken for _, answer in reading.places(image, stopping=False)]
+            same(f"{page.path}, {text}", (parts, int(sum_said)), (" + ".join(map(str, taken)), sum(taken)))
+            for times in range(1, 20):
+                whole = bytes.fromhex("7E 2C" * times) + image
+                most = 3 * len(whole) - (len(whole) + 1) % 2
+                same(f"{page.path}, {text} behind 7E 2C, {times} times", most, reading.sweep(whole, stopping=False)[-1])
+
+
+def check_twins(page, model, manual):
+    """The unmarked codes that list alike, by each reading; zeros stand behind them, since what is read is shown in full."""
+    told = re.search(r"pairs of codes that mean the same: 7C (.*?), where", page.text)
+    said = told and [tuple(bytes_in(pair.replace("7C", ""))) for pair in told[1].split(", ")]
+    for reading in (model, manual):
+        codes = {}
+        for first, second, _ in reading.unmarked:
+            codes.setdefault(reading.listing(bytes((first, second, 0, 0, 0, 0, 0)), stopping=False)[0], []).append((first, second))
+        alike = [group for group in codes.values() if len(group) > 1]
+        same(f"{page.path}, codes that list alike", said, [tuple(second for first, second in group if first == 0x7C) for group in alike])
+
+
+def encoded(model, record):
+    """What an encoder makes of a record, as the page writes it."""
+    found = model.encode(record)
+    return "refused 5" if found is None else found.hex(" ").upper()
+
+
+def encoded_again(model, bs):
+    """What becomes of bytes that are decoded and encoded; nothing if they are refused."""
+    answer = model.decode(bs)
+    return "" if answer.refusal else encoded(model, answer.record)
 
 
 def check_examples(page, model):
     for line in page.table("Examples"):
         bs = bytes.fromhex(line["bytes"].replace("(none)", ""))
-        answer = model.decode(bs)
-        encoded = "" if answer.refusal else model.encode(answer.record)
         where = f"{page.path}, line {line.number}, by the tables"
         same(where, line["listing"], model.listing(bs, stopping=False)[0])
-        same(where, line["encoded again"], "refused 5" if encoded is None else encoded and encoded.hex(" ").upper())
+        same(where, line["encoded again"], encoded_again(model, bs))
+
+
+def check_examples_by_manual(page, model, manual):
+    """The examples by both readings; each changed row has one."""
+    unseen = {c.line for c in page.changed.values()}
+    for line in page.table("Examples by the manual"):
+        bs = bytes.fromhex(line["bytes"])
+        said = (line["by document 01"], line["by the manual"], line["encoded again by the manual"])
+        found = (*(reading.listing(bs, stopping=False)[0] for reading in (model, manual)), encoded_again(manual, bs))
+        same(f"{page.path}, line {line.number}, by the tables", said, found)
+        unseen.discard(page.changed[bs[0], bs[1]].line if (bs[0], bs[1]) in page.changed else None)
+    for number in sorted(unseen):
+        raise Differs(f"{page.path}: no example by the manual of line {number}")
+
+
+def check_mixed(page, model, manual):
+    """What both encoders make of records of both readings."""
+    readings = {"document 01": model, "the manual": manual}
+    page.each("A record does not say which reading made it", lambda line: check_mix(page, readings, line))
+
+
+def check_mix(page, readings, line):
+    by = readings[line["decoded by"]]
+    r = by.decode(bytes.fromhex(line["bytes"])).record
+    said = (line["line"], line["IMM_WIDE"], line["MARKED"], *(line["encoded by " + name] for name in readings))
+    found = (from_opcode(by, r), f"{r.imm_wide:08X}", str(int(r.marked)), *(encoded(model, r) for model in readings.values()))
+    same(f"{page.path}, line {line.number}, by the tables", said, found)

@@ -34,7 +34,7 @@ class Answer:
 class Model:
     def __init__(self, page):
         self.page = page
-        self.unmarked = [(a, b, c) for (a, b), c in sorted(page.codes.items()) if not c.marked and (STOP not in dict(c.steps))]
+        self.unmarked = [(a, b, c) for (a, b), c in sorted(page.codes.items()) if not c.marked and not c.refusal]
 
     def decode(self, bs):
         if not bs:
@@ -75,9 +75,8 @@ class Model:
         """Refusal and length by the first two bytes: those of the code's row, whatever follows."""
         if len(bs) < 2 or bs[0] not in self.page.widths:
             return self.decode(bs).refusal, 0
-        steps = self.page.codes[bs[0], bs[1]].steps
-        refusal = dict(steps).get(STOP, 0)
-        return refusal, 0 if refusal else 2 + sum(size for _, size in steps)
+        code = self.page.codes[bs[0], bs[1]]
+        return code.refusal, 0 if code.refusal else 2 + sum(size for _, size in code.steps)
 
     # Whose number is where
 

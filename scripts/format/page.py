@@ -1,6 +1,7 @@
 """The tables of docs/FORMAT.md, as data."""
+import copy
 import re
-from dataclasses import dataclass
+from dataclasses import dataclass, replace
 
 HEX = "0123456789ABCDEF"
 BITS = ["80", "40", "20", "10", "08", "04", "02", "01"]
@@ -49,7 +50,7 @@ class Line:
 
 @dataclass
 class Code:
-    """What a code is decoded to: names, the number in the code, and the steps behind it. Refused ones are a STOP alone."""
+    """What a code is decoded to: names, the number in the code, and the steps behind it, of which a STOP is the last."""
 
     line: int
     width: str
@@ -60,6 +61,15 @@ class Code:
     steps: tuple = ()
     marked: bool = False
     registers: tuple = ()  # that the list names
+
+    @property
+    def refusal(self):
+        """That of every string with bytes enough, or 0; a condition byte does not count."""
+        return dict(self.steps).get(STOP, 0)
+
+    def said(self):
+        """All that the row says of the code, but for the mark."""
+        return replace(self, line=0, marked=False)
 
 
 class Page:
@@ -79,17 +89,24 @@ class Page:
         self.opcodes, self.lists = {}, {}
         for section in BY_FIRST_BYTE:
             self.each(section, self.read_opcode)
-        self.codes = {}
+        self.codes, self.changed = {}, {}
         for heading in self.sections:
             if re.fullmatch(r"[0-9A-F]{2}( and [0-9A-F]{2}| alone)?", heading):
-                self.each(heading, lambda line: self.read_row(bytes_in(heading), line))
+                self.each(heading, lambda line: self.read_row(self.codes, bytes_in(heading), line))
         for section in BY_FIRST_BYTE:
             firsts = [first for line in self.table(section) for first in bytes_in(line["first bytes"])]
-            self.each(section, lambda line: self.read_row(firsts, line), 1)
+            self.each(section, lambda line: self.read_row(self.codes, firsts, line), 1)
+        self.each("Changed rows", lambda line: self.read_row(self.changed, bytes_in(line["first bytes"]), line))
         for first in self.widths:
             for second in range(256):
                 if (first, second) not in self.codes:
                     raise Differs(f"{path}: no row has {first:02X} {second:02X}")
+
+    def by_manual(self):
+        """The page with the changed rows in their places."""
+        other = copy.copy(self)
+        other.codes = {**self.codes, **self.changed}
+        return other
 
     def read_tables(self):
         """The tables below each heading, each a list of its lines."""
@@ -176,20 +193,21 @@ class Page:
 
     # Rows
 
-    def read_row(self, firsts, line):
+    def read_row(self, codes, firsts, line):
         pattern = re.fullmatch(r"(h|[0-9A-F]|\[.-.\])(n|[0-9A-F]|\[.-.\])", line["second byte"])
         highs, lows = (digits("0-F" if part in "hn" else part.strip("[]")) for part in pattern.groups())
         for first in firsts:
             for second in (16 * h + n for h in highs for n in lows):
-                if (first, second) in self.codes:
-                    raise Differs(f"{self.path}, line {line.number}: {first:02X} {second:02X} is also in line {self.codes[first, second].line}")
-                self.codes[first, second] = self.code(line, first, second)
+                if (first, second) in codes:
+                    raise Differs(f"{self.path}, line {line.number}: {first:02X} {second:02X} is also in line {codes[first, second].line}")
+                codes[first, second] = self.code(line, first, second)
 
     def code(self, line, first, second):
         width = self.widths[first]
+        mark = line.cells.get("mark", "")  # the table of changed rows has none
         refused = re.fullmatch(r"refused ([23])", line["opcode"])
         if refused:
-            if line["operand 0"] or line["operand 1"] or line["in order"] or line["mark"]:
+            if line["operand 0"] or line["operand 1"] or line["in order"] or mark:
                 raise ValueError("a refused code has nothing else")
             return Code(line.number, width, steps=((STOP, int(refused[1])),))
         opcode, _, size = (self.opcodes[first] if line["opcode"] == "by first byte" else line["opcode"]).partition(".")
@@ -198,14 +216,14 @@ class Page:
             name, _, value = cell.partition(" = ")
             operands.append(self.operand(name, width, second))
             number = self.number_in_code(value, second) if value else number
-        steps = [step for part in line["in order"].split("; ") if part for step in self.steps(part, width, second)]
+        steps = self.up_to_stop([step for part in line["in order"].split("; ") if part for step in self.steps(part, width, second)])
         if opcode == "by condition":
             opcode = None
         elif not re.fullmatch("[A-Z]+", opcode):
             raise ValueError("opcode")
         registers = tuple(name for bit, name in self.lists.get(first, {}).items() if int(bit, 16) & number)
         return Code(line.number, width, opcode, width if size == "size" else size, tuple(operands), number, tuple(steps),
-                    self.marked(line["mark"], second % 16), registers)
+                    self.marked(mark, second % 16), registers)
 
     def coded(self, text, second):
         """The table and the code of 'G(n)', 'K(h-8)' and the like, or None."""
@@ -215,6 +233,8 @@ class Page:
         return self.operand_codes[found[1]][(second // 16 if found[2] == "h" else second % 16) - int(found[3] or 0)]
 
     def operand(self, text, width, second):
+        text, _, other = text.partition(" at ")
+        width = {"": width, "W": "W"}[other]
         code = self.coded(text, second)
         if code is not None:
             return "Nothing" if code[0] is None else code[0][width != "B"]
@@ -225,9 +245,10 @@ class Page:
         return text or "Nothing"
 
     def number_in_code(self, text, second):
-        n = second % 16
-        return {"n": n, "n mod 8": n % 8, "second byte": second, "second byte mod 64": second % 64,
-                "n, sign-extended from 3 bits to 32": n if n < 4 else 0xFFFFFFF8 + n}[text]
+        h, n = second // 16, second % 16
+        return {"h": h, "n": n, "n mod 8": n % 8, "second byte": second, "second byte mod 64": second % 64,
+                "n, sign-extended from 3 bits to 32": n if n < 4 else 0xFFFFFFF8 + n,
+                "n, sign-extended from 4 bits to 32": n if n < 8 else 0xFFFFFFF0 + n}[text]
 
     def steps(self, text, width, second):
         n = second % 16
@@ -244,6 +265,10 @@ class Page:
         word, _, count = text.partition(" ")
         return [{"I": (IMMEDIATE, {"B": 1, "W": 2}.get(width)), "L": (IMMEDIATE, 3), "condition": (CONDITION, 1),
                  "imm": (IMMEDIATE, int(count or 0)), "disp": (DISPLACEMENT, int(count or 0))}[word]]
+
+    def up_to_stop(self, steps):
+        """The steps that are done: none behind a refusal."""
+        return steps[:next((count for count, (step, _) in enumerate(steps, 1) if step == STOP), None)]
 
     def by_width(self, text, width):
         """The digits of '1 3 5', or of '1 3 5 at B, 2 3 5 at W'."""

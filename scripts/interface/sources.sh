@@ -35,7 +35,7 @@ numbered_lengths() {
 LIST
 }
 
-# "NUMBER FIELD" of each number of a record, in the order of the definition by which m16c_decode is proved to fill its entries.
+# "NUMBER FIELD" of each number of a record, in the order of the definition by which the decoders are proved to fill their entries.
 numbered_fields() {
     awk '
         { gsub(/«|»/, "") }
@@ -68,7 +68,7 @@ sized_opcodes() {
 # Of each function for C, in the order of crates.txt, its comment as "// ..." lines and then "fn NAME RETURNED; PARAMETER: TYPE; ...".
 # The small archive has some of them once more.
 functions() {
-    sed 's/:.*//' "$repo/crates.txt" | grep -vx m16c_small | while read -r crate; do
+    sed 's/:.*//' "$repo/crates.txt" | grep -vx 'm16c_small\(_manual\)\{0,1\}' | while read -r crate; do
         functions_of "$crate"
     done
 }
@@ -94,9 +94,9 @@ functions_of() {
 # One header serves both archives: the small one's functions are declared as in the crates of their own.
 check_small() {
     functions | grep '^fn ' >"$out/declared"
-    functions_of m16c_small | grep '^fn ' >"$out/small"
+    { functions_of m16c_small; functions_of m16c_small_manual; } | grep '^fn ' >"$out/small"
     ! grep -vxFf "$out/declared" "$out/small" || {
-        echo "crates/m16c_small declares the functions above otherwise than the crates of that name" >&2
+        echo "m16c_small or m16c_small_manual declares the functions above otherwise than the crates of that name" >&2
         exit 1
     }
 }

@@ -4,7 +4,7 @@ use core::fmt;
 use crate::c;
 use crate::instruction::Numbers;
 use crate::names::index;
-use crate::{Instruction, Refusal};
+use crate::{AnyOpcode, Instruction, ManualInstruction, Refusal};
 
 /// Why a number of the library's can have no name here: its header and these names are made from the same sources.
 pub(crate) const OTHER_LIBRARY: &str = "the library that is linked is not of this version";
@@ -20,9 +20,36 @@ pub struct Refused {
 
 /// Decodes the instruction at a place of an image. A place past the end is an image that ends there.
 pub fn decode(image: &[u8], at: usize) -> Result<Instruction, Refused> {
+    decode_by(image, at)
+}
+
+/// The same by the manual: rows that document 01 marks are read as the maker's manual has them, and are unmarked then. Some marked rows
+/// stay.
+///
+/// ```
+/// use m16c::{decode, decode_manual, Refusal};
+///
+/// // MULU #22H, 10H[A0]; document 01 has no displacement there, and one byte less.
+/// let bytes = [0x7C, 0x48, 0x10, 0x22];
+/// let instruction = decode_manual(&bytes, 0)?;
+/// assert_eq!((instruction.imm_wide, instruction.dispabs, instruction.length), (0x22, 0x10, 4));
+/// assert!(!instruction.marked);
+/// let other = decode(&bytes, 0)?;
+/// assert_eq!((other.imm_wide, other.dispabs, other.length), (0x10, 0, 3));
+/// assert!(other.marked);
+///
+/// // It refuses what the manual has no instruction for: A1 as a product.
+/// assert_eq!(decode_manual(&[0x7D, 0x45], 0).map_err(|refused| refused.refusal), Err(Refusal::InvalidOperand));
+/// # Ok::<(), m16c::Refused>(())
+/// ```
+pub fn decode_manual(image: &[u8], at: usize) -> Result<ManualInstruction, Refused> {
+    decode_by(image, at)
+}
+
+pub(crate) fn decode_by<O: AnyOpcode>(image: &[u8], at: usize) -> Result<Instruction<O>, Refused> {
     let mut numbers: Numbers = [0; index::NUMBERS];
     // Sound: both are slices, passed with their own lengths and borrowed for the call.
-    let returned = unsafe { c::m16c_decode(image.as_ptr(), image.len(), at, numbers.as_mut_ptr(), numbers.len()) };
+    let returned = unsafe { (O::DECODE)(image.as_ptr(), image.len(), at, numbers.as_mut_ptr(), numbers.len()) };
     match accepted(returned) {
         Ok(()) => Ok(Instruction::from_numbers(&numbers).expect(OTHER_LIBRARY)),
         Err(refusal) => Err(Refused { place: at, refusal, taken: numbers[index::TAKEN] as usize }),
@@ -33,17 +60,39 @@ pub fn decode(image: &[u8], at: usize) -> Result<Instruction, Refused> {
 /// how many were written; nothing else is touched, and nothing at all on refusal. What the instruction says of `length`, `marked`,
 /// `dropped`, `parts` and `registers` does not count.
 pub fn encode(instruction: &Instruction, buf: &mut [u8], place: usize) -> Result<usize, Refusal> {
+    encode_by(instruction, buf, place)
+}
+
+/// The same by the manual: the shortest bytes that [`decode_manual`] takes for the same instruction by an unmarked row.
+///
+/// ```
+/// use m16c::{decode_manual, encode_manual, OperandSpec};
+///
+/// // LDIPL #7 becomes LDIPL #3.
+/// let mut level = decode_manual(&[0x7D, 0xA7], 0)?;
+/// assert_eq!((level.operands[0], level.imm_wide), (OperandSpec::Imm8, 7));
+/// level.imm_wide = 3;
+/// let mut bytes = [0; 2];
+/// assert_eq!(encode_manual(&level, &mut bytes, 0)?, 2);
+/// assert_eq!(bytes, [0x7D, 0xA3]);
+/// # Ok::<(), Box<dyn std::error::Error>>(())
+/// ```
+pub fn encode_manual(instruction: &ManualInstruction, buf: &mut [u8], place: usize) -> Result<usize, Refusal> {
+    encode_by(instruction, buf, place)
+}
+
+fn encode_by<O: AnyOpcode>(instruction: &Instruction<O>, buf: &mut [u8], place: usize) -> Result<usize, Refusal> {
     let numbers = instruction.numbers();
     let mut length = 0;
     // Sound: both are slices, passed with their own lengths and borrowed for the call, and `length` is a number of ours.
     let returned =
-        unsafe { c::m16c_encode(numbers.as_ptr(), numbers.len(), buf.as_mut_ptr(), buf.len(), place, &mut length) };
+        unsafe { (O::ENCODE)(numbers.as_ptr(), numbers.len(), buf.as_mut_ptr(), buf.len(), place, &mut length) };
     accepted(returned).map(|()| length)
 }
 
-/// The length that every instruction has that begins with the first two bytes; more bytes do not count, and none are needed. Where no
-/// bytes behind these two make an instruction, the refusal that decoding gives if there are enough of them. A first byte that is not
-/// decoded here is refused before fewer than two bytes are.
+/// The length that every instruction has by document 01 that begins with the first two bytes; more bytes do not count, and none are needed.
+/// Where no bytes behind these two make an instruction, the refusal that decoding gives if there are enough of them. A first byte that is
+/// not decoded here is refused before fewer than two bytes are.
 ///
 /// ```
 /// use m16c::{length_of, Refusal};
@@ -67,7 +116,7 @@ pub fn length_of(bytes: &[u8]) -> Result<u8, Refusal> {
 }
 
 /// The number that belongs to an operand, if there is one.
-pub(crate) fn operand_number(instruction: &Instruction, k: usize) -> Option<i64> {
+pub(crate) fn operand_number<O: AnyOpcode>(instruction: &Instruction<O>, k: usize) -> Option<i64> {
     let numbers = instruction.numbers();
     let mut number = 0;
     // Sound: a slice, passed with its own length and borrowed for the call, and a number of ours.

@@ -1,15 +1,24 @@
 use crate::calls::operand_number;
 use crate::names::index;
-use crate::{Opcode, OperandSpec, Parts, RegisterList, Size, Width};
+use crate::{AnyOpcode, ManualInstruction, Opcode, OperandSpec, Parts, Reading, RegisterList, Size, Width};
 
 /// A record as the library has it.
 pub(crate) type Numbers = [u32; index::NUMBERS];
 
 /// A decoded instruction, or one to be encoded. `==` compares every field; several records can mean the same instruction.
+///
+/// The type of its opcode says by which reading: an `Instruction` is document 01's, a [`ManualInstruction`] the manual's. A record means
+/// something else by the other reading, so no function takes the one for the other; [`Instruction::to_manual`] and
+/// [`ManualInstruction::to_document01`](Instruction::to_document01) are there for who means it.
+///
+/// ```compile_fail,E0308
+/// let instruction = m16c::decode(&[0x7D, 0xB9], 0).expect("an instruction");
+/// m16c::encode_manual(&instruction, &mut [0; 2], 0); // not a `ManualInstruction`
+/// ```
 #[derive(Debug, Clone, Copy, PartialEq, Eq, Hash)]
-pub struct Instruction {
+pub struct Instruction<O = Opcode> {
     /// The opcode, with the size that it carries.
-    pub opcode: Opcode,
+    pub opcode: O,
     /// By the first byte. It counts: opcodes that carry no size mean another instruction at another width.
     pub width: Width,
     pub operands: [OperandSpec; 3],
@@ -49,6 +58,7 @@ pub struct Operand {
     pub number: Option<i64>,
 }
 
+// Of document 01's alone: were there two, `Instruction::default()` would not say which.
 impl Default for Instruction {
     /// The blank record.
     fn default() -> Self {
@@ -69,6 +79,62 @@ impl Default for Instruction {
 }
 
 impl Instruction {
+    /// The same record, taken for one of the manual's. Nothing is read anew: where the readings differ this is another instruction, or none.
+    ///
+    /// ```
+    /// use m16c::{decode, decode_manual, encode_manual};
+    ///
+    /// // By document 01 an ADD of 1 to SP, marked; by the manual these bytes add -7.
+    /// let bytes = [0x7D, 0xB9];
+    /// let instruction = decode(&bytes, 0)?;
+    /// assert_eq!((instruction.imm_wide, instruction.marked), (1, true));
+    /// assert_eq!(decode_manual(&bytes, 0)?.imm_wide as i32, -7);
+    ///
+    /// let mut written = [0; 2];
+    /// encode_manual(&instruction.to_manual(), &mut written, 0)?;
+    /// assert_eq!(written, [0x7D, 0xB1]);
+    /// encode_manual(&decode_manual(&bytes, 0)?, &mut written, 0)?;
+    /// assert_eq!(written, bytes);
+    /// # Ok::<(), Box<dyn std::error::Error>>(())
+    /// ```
+    pub fn to_manual(self) -> ManualInstruction {
+        self.with_opcode(self.opcode.into())
+    }
+}
+
+impl ManualInstruction {
+    /// The blank record, for an instruction that is to be encoded.
+    ///
+    /// ```
+    /// use m16c::{encode_manual, ManualInstruction, ManualOpcode, OperandSpec, Width};
+    ///
+    /// let jump = ManualInstruction {
+    ///     opcode: ManualOpcode::JMPI_W,
+    ///     width: Width::W,
+    ///     operands: [OperandSpec::R2, OperandSpec::Nothing, OperandSpec::Nothing],
+    ///     ..ManualInstruction::blank()
+    /// };
+    /// let mut bytes = [0; 2];
+    /// assert_eq!(encode_manual(&jump, &mut bytes, 0), Ok(2));
+    /// assert_eq!(bytes, [0x7D, 0x22]);
+    /// ```
+    pub fn blank() -> Self {
+        Instruction::default().to_manual()
+    }
+
+    /// The same record, taken for one of document 01's. Nothing is read anew: where the readings differ this is another instruction, or
+    /// none. There is none here for an opcode that document 01 does not have, `JMPI.W` or `JSRI.W`.
+    pub fn to_document01(self) -> Option<Instruction> {
+        self.opcode.common().map(|opcode| self.with_opcode(opcode))
+    }
+}
+
+impl<O: AnyOpcode> Instruction<O> {
+    /// The reading that it is of.
+    pub fn reading(&self) -> Reading {
+        O::READING
+    }
+
     /// Operand 0, 1 or 2; none if there is none.
     pub fn operand(&self, idx: u8) -> Option<Operand> {
         let spec = *self.operands.get(usize::from(idx))?;
@@ -78,8 +144,8 @@ impl Instruction {
     /// Where the numbers stand in the bytes. Other bytes over a part make another number in its field, and change nothing else of the
     /// instruction but `dropped`: so a constant is changed in place, however many bytes encoding would take.
     ///
-    /// Parts go by fields, not by operands: in the marked rows 74 3x and 75 3x `dispabs` was read as the displacement of the first operand,
-    /// and the line shows it under the second, `Disp8_SP`.
+    /// Parts go by fields, not by operands: in the rows 74 3x and 75 3x, which document 01 marks, its `dispabs` was read as the displacement
+    /// of the first operand, and the line shows it under the second, `Disp8_SP`.
     ///
     /// ```
     /// // Behind an INT a MOV.W #2, 34H[A0], with a displacement longer than it needs to be: encoding would shorten it.
@@ -132,6 +198,13 @@ impl Instruction {
         RegisterList::of(self)
     }
 
+    fn with_opcode<P>(self, opcode: P) -> Instruction<P> {
+        let Instruction {
+            width, operands, imm_wide, dispabs, first, length, marked, dropped, parts, registers, ..
+        } = self;
+        Instruction { opcode, width, operands, imm_wide, dispabs, first, length, marked, dropped, parts, registers }
+    }
+
     /// None if the numbers are those of no instruction.
     pub(crate) fn from_numbers(numbers: &Numbers) -> Option<Self> {
         let size = match numbers[index::SIZE] {
@@ -140,7 +213,7 @@ impl Instruction {
         };
         let operand = |index: usize| OperandSpec::from_number(numbers[index]);
         Some(Instruction {
-            opcode: Opcode::from_number(numbers[index::OPCODE], size)?,
+            opcode: O::from_number(numbers[index::OPCODE], size)?,
             width: Width::from_number(numbers[index::WIDTH])?,
             operands: [operand(index::OP0)?, operand(index::OP1)?, operand(index::OP2)?],
             imm_wide: numbers[index::IMM_WIDE],

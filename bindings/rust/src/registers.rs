@@ -1,6 +1,6 @@
 use core::iter::FusedIterator;
 
-use crate::{Instruction, Opcode, OperandSpec};
+use crate::{AnyOpcode, Instruction, Opcode, OperandSpec};
 
 // The registers of a list's bits, 80 first.
 const PUSHED: [OperandSpec; 8] = [
@@ -34,11 +34,11 @@ pub struct RegisterList {
 }
 
 impl RegisterList {
-    pub(crate) fn of(instruction: &Instruction) -> Self {
+    pub(crate) fn of<O: AnyOpcode>(instruction: &Instruction<O>) -> Self {
         let list = instruction.imm_wide as u8;
-        match instruction.opcode {
-            Opcode::PUSHM => RegisterList { names: PUSHED, left: list },
-            Opcode::POPM => RegisterList { names: POPPED, left: list },
+        match instruction.opcode.common() {
+            Some(Opcode::PUSHM) => RegisterList { names: PUSHED, left: list },
+            Some(Opcode::POPM) => RegisterList { names: POPPED, left: list },
             _ => RegisterList { names: PUSHED, left: 0 },
         }
     }

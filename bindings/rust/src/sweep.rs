@@ -1,13 +1,19 @@
 use core::fmt;
 use core::iter::FusedIterator;
+use core::marker::PhantomData;
 
-use crate::calls::accepted;
-use crate::{c, decode, line, Instruction, Refusal, Refused};
+use crate::calls::{accepted, decode_by};
+use crate::line::line_by;
+use crate::{c, AnyOpcode, Instruction, ManualSweep, Opcode, Reading, Refusal, Refused};
 
 /// What a sweep found in an image. Shown, it is the image's whole listing, with the last line that `./m16c list` prints.
+///
+/// Its type says by which reading, as that of an [`Instruction`] does: a `Sweep<'a>` is document 01's, a [`ManualSweep`] the manual's. Its
+/// instructions and its listing are by the same.
 #[derive(Debug, Clone, Copy)]
-pub struct Sweep<'a> {
+pub struct Sweep<'a, O = Opcode> {
     image: &'a [u8],
+    opcodes: PhantomData<O>,
     /// Where the instructions start.
     pub starts: &'a [u16],
     /// Where the sweep ended: at the image's end, or at the refusal that stopped it.
@@ -33,7 +39,45 @@ pub fn sweep_stopping<'a>(image: &'a [u8], starts: &'a mut [u16]) -> Result<Swee
     sweep_by(c::m16c_sweep_stopping, image, starts)
 }
 
-fn sweep_by<'a>(function: c::Sweep, image: &'a [u8], starts: &'a mut [u16]) -> Result<Sweep<'a>, Refusal> {
+/// As [`sweep`], by the manual: decoding is that of [`decode_manual`](crate::decode_manual).
+///
+/// ```
+/// // By document 01 the DIVX takes an immediate, and so the first byte of what stands behind it.
+/// let image = [0x76, 0x90, 0x7D, 0x22];
+/// let mut starts = [0; 4];
+/// let sweep = m16c::sweep_manual(&image, &mut starts)?;
+/// assert_eq!(sweep.reading(), m16c::Reading::Manual);
+/// assert_eq!(sweep.to_string(), "0000 2 B DIVX.B R0L\n0002 2 W JMPI.W R2\nEND 0004\n");
+///
+/// let sweep = m16c::sweep(&image, &mut starts)?;
+/// assert_eq!(sweep.to_string(), "0000 3 B DIVX.B Imm8=7D\n0003 REFUSED 4 TAKEN 1\nEND 0004\n");
+/// # Ok::<(), m16c::Refusal>(())
+/// ```
+pub fn sweep_manual<'a>(image: &'a [u8], starts: &'a mut [u16]) -> Result<ManualSweep<'a>, Refusal> {
+    sweep_by(c::m16c_sweep_manual, image, starts)
+}
+
+/// As [`sweep_stopping`], by the manual.
+///
+/// ```
+/// // By document 01 R2 is refused here.
+/// let image = [0x7D, 0x22, 0x7D, 0x45];
+/// let mut starts = [0; 4];
+/// let sweep = m16c::sweep_manual_stopping(&image, &mut starts)?;
+/// assert_eq!(sweep.to_string(), "0000 2 W JMPI.W R2\n0002 REFUSED 3 TAKEN 2\n");
+/// assert_eq!(m16c::sweep_stopping(&image, &mut starts)?.to_string(), "0000 REFUSED 3 TAKEN 2\n");
+/// # Ok::<(), m16c::Refusal>(())
+/// ```
+pub fn sweep_manual_stopping<'a>(image: &'a [u8], starts: &'a mut [u16]) -> Result<ManualSweep<'a>, Refusal> {
+    sweep_by(c::m16c_sweep_manual_stopping, image, starts)
+}
+
+/// By a function of this reading.
+fn sweep_by<'a, O: AnyOpcode>(
+    function: c::Sweep,
+    image: &'a [u8],
+    starts: &'a mut [u16],
+) -> Result<Sweep<'a, O>, Refusal> {
     let (mut count, mut place, mut refused, mut read) = (0, 0, 0, 0);
     let (out, room) = (starts.as_mut_ptr(), starts.len());
     // Sound: both are slices, passed with their own lengths and borrowed for the call, and the numbers are ours.
@@ -41,24 +85,30 @@ fn sweep_by<'a>(function: c::Sweep, image: &'a [u8], starts: &'a mut [u16]) -> R
         unsafe { function(image.as_ptr(), image.len(), out, room, &mut count, &mut place, &mut refused, &mut read) };
     let stopped = match accepted(returned) {
         Err(refusal @ (Refusal::TooLittleRoom | Refusal::ImageTooLong)) => return Err(refusal),
-        Err(_) => decode(image, place).err(),
+        Err(_) => decode_by::<O>(image, place).err(),
         Ok(()) => None,
     };
-    Ok(Sweep { image, starts: &starts[..count], place, refused, read, stopped })
+    Ok(Sweep { image, opcodes: PhantomData, starts: &starts[..count], place, refused, read, stopped })
 }
 
-impl<'a> Sweep<'a> {
+impl<'a, O: AnyOpcode> Sweep<'a, O> {
+    /// The reading that it is by.
+    pub fn reading(&self) -> Reading {
+        O::READING
+    }
+
     /// The instructions in their order, and between them the places that were refused and passed; last the refusal that stopped the
     /// sweep, if one did. `flatten` gives the instructions only.
-    pub fn instructions(&self) -> Instructions<'a> {
-        Instructions { image: self.image, place: 0, end: self.place, stopped: self.stopped }
+    pub fn instructions(&self) -> Instructions<'a, O> {
+        Instructions { image: self.image, opcodes: PhantomData, place: 0, end: self.place, stopped: self.stopped }
     }
 }
 
 /// The instructions and the refused places of a sweep.
 #[derive(Debug, Clone)]
-pub struct Instructions<'a> {
+pub struct Instructions<'a, O = Opcode> {
     image: &'a [u8],
+    opcodes: PhantomData<O>,
     place: usize,
     end: usize,
     stopped: Option<Refused>,
@@ -66,37 +116,37 @@ pub struct Instructions<'a> {
 
 /// An instruction at its place in an image. Shown, it is the listing's line.
 #[derive(Debug, Clone, Copy)]
-pub struct Placed<'a> {
+pub struct Placed<'a, O = Opcode> {
     image: &'a [u8],
     pub place: usize,
-    pub instruction: Instruction,
+    pub instruction: Instruction<O>,
 }
 
-impl<'a> Iterator for Instructions<'a> {
-    type Item = Result<Placed<'a>, Refused>;
+impl<'a, O: AnyOpcode> Iterator for Instructions<'a, O> {
+    type Item = Result<Placed<'a, O>, Refused>;
 
     fn next(&mut self) -> Option<Self::Item> {
         let (image, place) = (self.image, self.place);
         if place >= self.end {
             return self.stopped.take().map(Err);
         }
-        let found = decode(image, place);
+        let found = decode_by::<O>(image, place);
         self.place += found.map_or(1, |instruction| usize::from(instruction.length));
         Some(found.map(|instruction| Placed { image, place, instruction }))
     }
 }
 
-impl FusedIterator for Instructions<'_> {}
+impl<O: AnyOpcode> FusedIterator for Instructions<'_, O> {}
 
-impl fmt::Display for Placed<'_> {
+impl<O: AnyOpcode> fmt::Display for Placed<'_, O> {
     fn fmt(&self, f: &mut fmt::Formatter) -> fmt::Result {
         // What is placed was decoded there, so it has a line.
-        let line = line(self.image, self.place).map_err(|_| fmt::Error)?;
+        let line = line_by::<O>(self.image, self.place).map_err(|_| fmt::Error)?;
         fmt::Display::fmt(&line, f)
     }
 }
 
-impl fmt::Display for Sweep<'_> {
+impl<O: AnyOpcode> fmt::Display for Sweep<'_, O> {
     fn fmt(&self, f: &mut fmt::Formatter) -> fmt::Result {
         for found in self.instructions() {
             match found {

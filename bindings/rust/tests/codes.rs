@@ -1,6 +1,7 @@
-//! Every code: names and numbers by the line that the library writes, encoding both ways, and where the numbers stand.
+//! Every code by both readings: names and numbers by the line that the library writes, encoding both ways, and where the numbers stand.
 
-use m16c::{decode, encode, line, Instruction, Opcode, OperandSpec, Part, Refusal, Size, Width};
+use m16c::{decode, decode_manual, encode, encode_manual, line, line_manual};
+use m16c::{AnyOpcode, Instruction, Line, ManualOpcode, Opcode, OperandSpec, Part, Refusal, Refused, Size, Width};
 
 #[rustfmt::skip] // sixteen in a line
 const FIRST_BYTES: [u8; 34] = [
@@ -12,8 +13,53 @@ const FIRST_BYTES: [u8; 34] = [
 const TAILS: [[u8; 5]; 3] = [[0x00; 5], [0x05, 0x06, 0xFA, 0xC3, 0xD4], [0x01, 0x02, 0x03, 0x04, 0xF5]];
 
 // Of the twenty-two first bytes of request A7 every code is accepted, and none is marked.
-const ACCEPTED_CODES: usize = 2596 + 22 * 256;
-const UNMARKED_CODES: usize = 2150 + 22 * 256;
+const ADDED_CODES: usize = 22 * 256;
+
+/// The functions of a reading, and how many codes it accepts.
+trait Read: AnyOpcode {
+    const ACCEPTED_CODES: usize;
+    const UNMARKED_CODES: usize;
+
+    fn decode(bytes: &[u8]) -> Result<Instruction<Self>, Refused>;
+    fn encode(instruction: &Instruction<Self>, buf: &mut [u8]) -> Result<usize, Refusal>;
+    fn line(bytes: &[u8]) -> Result<Line, Refusal>;
+}
+
+impl Read for Opcode {
+    const ACCEPTED_CODES: usize = 2596 + ADDED_CODES;
+    const UNMARKED_CODES: usize = 2150 + ADDED_CODES;
+
+    fn decode(bytes: &[u8]) -> Result<Instruction, Refused> {
+        decode(bytes, 0)
+    }
+
+    fn encode(instruction: &Instruction, buf: &mut [u8]) -> Result<usize, Refusal> {
+        encode(instruction, buf, 0)
+    }
+
+    fn line(bytes: &[u8]) -> Result<Line, Refusal> {
+        line(bytes, 0)
+    }
+}
+
+impl Read for ManualOpcode {
+    // Three registers more for each of the word jumps.
+    const ACCEPTED_CODES: usize = 2596 + 6 + ADDED_CODES;
+    // The rows that request A9 changes, in the order of their first bytes: 74 and 75, 76 and 77, 7A, 7C and 7D, 7D alone, EB.
+    const UNMARKED_CODES: usize = 2150 + (32 + 96 + 112 + 52 + (32 + 8 + 16 + 3) + 16) + ADDED_CODES;
+
+    fn decode(bytes: &[u8]) -> Result<Instruction<Self>, Refused> {
+        decode_manual(bytes, 0)
+    }
+
+    fn encode(instruction: &Instruction<Self>, buf: &mut [u8]) -> Result<usize, Refusal> {
+        encode_manual(instruction, buf, 0)
+    }
+
+    fn line(bytes: &[u8]) -> Result<Line, Refusal> {
+        line_manual(bytes, 0)
+    }
+}
 
 /// Every code with each tail.
 fn strings() -> impl Iterator<Item = [u8; 7]> {
@@ -22,22 +68,27 @@ fn strings() -> impl Iterator<Item = [u8; 7]> {
 }
 
 /// The instructions of all accepted codes, with their bytes.
-fn instructions() -> Vec<([u8; 7], Instruction)> {
-    let all: Vec<_> = strings().filter_map(|bytes| Some((bytes, decode(&bytes, 0).ok()?))).collect();
-    assert_eq!(all.len(), ACCEPTED_CODES * TAILS.len());
+fn instructions<O: Read>() -> Vec<([u8; 7], Instruction<O>)> {
+    let all: Vec<_> = strings().filter_map(|bytes| Some((bytes, O::decode(&bytes).ok()?))).collect();
+    assert_eq!(all.len(), O::ACCEPTED_CODES * TAILS.len());
     all
 }
 
 #[test]
 fn names_and_numbers_are_those_of_the_line() {
-    for (bytes, instruction) in instructions() {
-        let line = line(&bytes, 0).expect("what decodes has a line");
+    check_names_and_numbers::<Opcode>();
+    check_names_and_numbers::<ManualOpcode>();
+}
+
+fn check_names_and_numbers<O: Read>() {
+    for (bytes, instruction) in instructions::<O>() {
+        let line = O::line(&bytes).expect("what decodes has a line");
         assert_eq!(line.as_str(), listed(&instruction), "{bytes:X?}");
     }
 }
 
 /// The line of an instruction at place 0, put together from what the crate says of it.
-fn listed(instruction: &Instruction) -> String {
+fn listed<O: AnyOpcode>(instruction: &Instruction<O>) -> String {
     let width = match instruction.width {
         Width::None => "-",
         width => width.name(),
@@ -73,11 +124,16 @@ fn digits(name: &str) -> usize {
 
 #[test]
 fn encoding_and_decoding_back() {
-    let unmarked: Vec<_> = instructions().into_iter().filter(|(_, instruction)| !instruction.marked).collect();
-    assert_eq!(unmarked.len(), UNMARKED_CODES * TAILS.len());
+    check_encoding::<Opcode>();
+    check_encoding::<ManualOpcode>();
+}
+
+fn check_encoding<O: Read>() {
+    let unmarked: Vec<_> = instructions::<O>().into_iter().filter(|(_, instruction)| !instruction.marked).collect();
+    assert_eq!(unmarked.len(), O::UNMARKED_CODES * TAILS.len());
     for (bytes, instruction) in unmarked {
         let short = encoded(&instruction).unwrap_or_else(|refusal| panic!("{bytes:X?}: {refusal}"));
-        let back = decode(&short, 0).unwrap_or_else(|refused| panic!("{bytes:X?}: {short:X?}: {refused}"));
+        let back = O::decode(&short).unwrap_or_else(|refused| panic!("{bytes:X?}: {short:X?}: {refused}"));
         assert!(short.len() <= usize::from(instruction.length), "{bytes:X?}: {short:X?}");
         assert_eq!(usize::from(back.length), short.len(), "{bytes:X?}");
         assert!(!back.marked, "{bytes:X?}");
@@ -86,14 +142,14 @@ fn encoding_and_decoding_back() {
     }
 }
 
-fn encoded(instruction: &Instruction) -> Result<Vec<u8>, Refusal> {
+fn encoded<O: Read>(instruction: &Instruction<O>) -> Result<Vec<u8>, Refusal> {
     let mut buffer = [0; m16c::LONGEST_INSTRUCTION];
-    let length = encode(instruction, &mut buffer, 0)?;
+    let length = O::encode(instruction, &mut buffer)?;
     Ok(buffer[..length].to_vec())
 }
 
 /// Two instructions are the same if this agrees.
-fn meaning(instruction: &Instruction) -> (Opcode, Width, [Option<(OperandSpec, i64)>; 3]) {
+fn meaning<O: AnyOpcode>(instruction: &Instruction<O>) -> (O, Width, [Option<(OperandSpec, i64)>; 3]) {
     let operand = |k: u8| instruction.operand(k).map(|operand| based(operand.spec, operand.number.unwrap_or(0)));
     (instruction.opcode, instruction.width, [0, 1, 2].map(operand))
 }
@@ -125,7 +181,7 @@ enum Field {
 
 const FIELDS: [Field; 3] = [Field::First, Field::Dispabs, Field::ImmWide];
 
-fn part(instruction: &Instruction, field: Field) -> Option<Part> {
+fn part<O: AnyOpcode>(instruction: &Instruction<O>, field: Field) -> Option<Part> {
     match field {
         Field::First => instruction.parts().first,
         Field::Dispabs => instruction.parts().dispabs,
@@ -133,7 +189,7 @@ fn part(instruction: &Instruction, field: Field) -> Option<Part> {
     }
 }
 
-fn number(instruction: &Instruction, field: Field) -> u32 {
+fn number<O: AnyOpcode>(instruction: &Instruction<O>, field: Field) -> u32 {
     match field {
         Field::First => instruction.first.into(),
         Field::Dispabs => instruction.dispabs.into(),
@@ -141,7 +197,7 @@ fn number(instruction: &Instruction, field: Field) -> u32 {
     }
 }
 
-fn with_number(instruction: Instruction, field: Field, number: u32) -> Instruction {
+fn with_number<O: AnyOpcode>(instruction: Instruction<O>, field: Field, number: u32) -> Instruction<O> {
     let short = || u16::try_from(number).expect("a displacement has 16 bits");
     match field {
         Field::First => Instruction { first: short(), ..instruction },
@@ -157,7 +213,12 @@ fn read(bytes: &[u8]) -> u32 {
 
 #[test]
 fn each_byte_behind_the_code_is_of_one_part() {
-    for (bytes, instruction) in instructions() {
+    check_bytes_behind_the_code::<Opcode>();
+    check_bytes_behind_the_code::<ManualOpcode>();
+}
+
+fn check_bytes_behind_the_code<O: Read>() {
+    for (bytes, instruction) in instructions::<O>() {
         let mut parts_of_byte = [0; 7];
         for part in FIELDS.iter().filter_map(|field| part(&instruction, *field)) {
             assert!((1..=3).contains(&part.width), "{bytes:X?}: {part:?}");
@@ -172,7 +233,12 @@ fn each_byte_behind_the_code_is_of_one_part() {
 
 #[test]
 fn parts_hold_the_numbers_of_their_fields() {
-    for (bytes, instruction) in instructions() {
+    check_parts::<Opcode>();
+    check_parts::<ManualOpcode>();
+}
+
+fn check_parts<O: Read>() {
+    for (bytes, instruction) in instructions::<O>() {
         for field in FIELDS {
             let number = number(&instruction, field);
             match part(&instruction, field) {
@@ -186,7 +252,12 @@ fn parts_hold_the_numbers_of_their_fields() {
 
 #[test]
 fn other_bytes_over_a_part_change_its_field_alone() {
-    for (bytes, instruction) in instructions() {
+    check_other_bytes::<Opcode>();
+    check_other_bytes::<ManualOpcode>();
+}
+
+fn check_other_bytes<O: Read>() {
+    for (bytes, instruction) in instructions::<O>() {
         let parts = FIELDS.iter().filter_map(|field| Some((*field, part(&instruction, *field)?)));
         for ((field, part), patch) in parts.flat_map(|found| PATCHES.map(|patch| (found, patch))) {
             let written = &patch[..usize::from(part.width)];
@@ -195,7 +266,7 @@ fn other_bytes_over_a_part_change_its_field_alone() {
             // Only three bytes have bits to drop.
             let dropped = if let [_, _, last] = written { *last >= 0x10 } else { instruction.dropped };
             let expected = Instruction { dropped, ..with_number(instruction, field, read(written)) };
-            assert_eq!(decode(&patched, 0), Ok(expected), "{field:?} of {bytes:X?}: {patched:X?}");
+            assert_eq!(O::decode(&patched), Ok(expected), "{field:?} of {bytes:X?}: {patched:X?}");
         }
     }
 }
@@ -203,7 +274,12 @@ fn other_bytes_over_a_part_change_its_field_alone() {
 /// Only a list of registers has any: the ones of the second byte.
 #[test]
 fn registers_are_those_of_a_list() {
-    for (bytes, instruction) in instructions() {
+    check_registers::<Opcode>();
+    check_registers::<ManualOpcode>();
+}
+
+fn check_registers<O: Read>() {
+    for (bytes, instruction) in instructions::<O>() {
         let is_list = instruction.operands[0] == OperandSpec::RegList;
         assert_eq!(is_list, [0xEC, 0xED].contains(&bytes[0]), "{bytes:X?}");
         let count = if is_list { bytes[1].count_ones() } else { 0 };

@@ -1,6 +1,6 @@
 //! How many entries the functions want of a record.
 
-use m16c::c::{m16c_decode, m16c_encode, m16c_operand_number};
+use m16c::c::{m16c_decode, m16c_decode_manual, m16c_encode, m16c_encode_manual, m16c_operand_number, Decode, Encode};
 
 const ACCEPTED: u32 = 0;
 const NO_STRING: u32 = 5;
@@ -14,16 +14,20 @@ const REGISTERS: usize = 19;
 
 const UNTOUCHED: u32 = 0xDEAD;
 
+// By both readings.
+const DECODERS: [Decode; 2] = [m16c_decode, m16c_decode_manual];
+const ENCODERS: [Encode; 2] = [m16c_encode, m16c_encode_manual];
+
 // A list of four registers, and an instruction that ends too early.
 const PUSHM: [u8; 2] = [0xEC, 0xC9];
 const CUT: [u8; 3] = [0x72, 0x89, 0x10];
 
 #[test]
 fn decoding_wants_all() {
-    for room in 0..=NUMBERS + 1 {
+    for (room, decode) in (0..=NUMBERS + 1).flat_map(|room| DECODERS.map(|decode| (room, decode))) {
         for image in [&PUSHM[..], &CUT] {
             let mut numbers = [UNTOUCHED; NUMBERS + 1];
-            let returned = unsafe { m16c_decode(image.as_ptr(), image.len(), 0, numbers.as_mut_ptr(), room) };
+            let returned = unsafe { decode(image.as_ptr(), image.len(), 0, numbers.as_mut_ptr(), room) };
             if room < NUMBERS {
                 assert_eq!((returned, numbers), (TOO_LITTLE_ROOM, [UNTOUCHED; NUMBERS + 1]), "{room}");
             } else {
@@ -49,16 +53,15 @@ fn others_want_twelve() {
     assert_eq!((numbers[IMM_WIDE], numbers[REGISTERS]), (0xC9, 4));
     numbers[COUNTED..].fill(u32::MAX);
     for count in 0..=NUMBERS {
-        let (mut bytes, mut length, mut number) = ([0xA1; 3], 9, 9);
-        let (from, to) = (numbers.as_ptr(), bytes.as_mut_ptr());
-        let encoded = unsafe { m16c_encode(from, count, to, bytes.len(), 0, &mut length) };
-        let asked = unsafe { m16c_operand_number(from, count, 0, &mut number) };
-        if count < COUNTED {
-            assert_eq!((encoded, length, bytes), (NO_STRING, 0, [0xA1; 3]), "{count}");
-            assert_eq!((asked, number), (NO_STRING, 0), "{count}");
-        } else {
-            assert_eq!((encoded, length, bytes), (ACCEPTED, 2, [0xEC, 0xC9, 0xA1]), "{count}");
-            assert_eq!((asked, number), (ACCEPTED, 0xC9), "{count}");
+        for encode in ENCODERS {
+            let (mut bytes, mut length) = ([0xA1; 3], 9);
+            let (from, to) = (numbers.as_ptr(), bytes.as_mut_ptr());
+            let encoded = unsafe { encode(from, count, to, bytes.len(), 0, &mut length) };
+            let expected = if count < COUNTED { (NO_STRING, 0, [0xA1; 3]) } else { (ACCEPTED, 2, [0xEC, 0xC9, 0xA1]) };
+            assert_eq!((encoded, length, bytes), expected, "{count}");
         }
+        let mut number = 9;
+        let asked = unsafe { m16c_operand_number(numbers.as_ptr(), count, 0, &mut number) };
+        assert_eq!((asked, number), if count < COUNTED { (NO_STRING, 0) } else { (ACCEPTED, 0xC9) }, "{count}");
     }
 }

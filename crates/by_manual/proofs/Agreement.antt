@@ -24,7 +24,6 @@ use Rattle.rows.specs.steps.Meant.{meaningOf, Agrees}
 use Rattle.rows.proofs.Agree.{sized, said, roomy, same, same-agrees, row-agreement}
 use Rattle.rows.proofs.Manual.{plainNaming, naming-at, as-manual}
 use Rattle.rows.proofs.Spans.{accepted}
-use Rattle.by_manual.specs.declared.Reading.the-variants.{Manual}
 use Rattle.by_manual.specs.Changed.{becomes, changeAt}
 use Rattle.by_manual.specs.Table.{byManual}
 use Rattle.by_manual.specs.Lists.{onChanged, everyChanged}
@@ -91,5 +90,5 @@ module _ (a b : ℕ) (bs : List ℕ) (h : Bytes (a ∷ b ∷ bs)) where
       → (m : Meaning) → entryAt a b ≡ meaning m → AsManual a b (a ∷ b ∷ bs) m (decodeBy byManual (a ∷ b ∷ bs) .inst)
   agreement-here z u m e =
       let x = accepted byManual a b bs z in
-      as-manual byManual a b bs h z m (plain-by Manual a b (x .known) (h .1 .0))
+      as-manual byManual a b bs h z m (plain-by true a b (x .known) (h .1 .0))
       (row-agreement-here a b (x .known) (h .1 .0) (x .alive) (sym (x .made .marked) ∙ u) m e) (naming-here a b (x .known) (h .1 .0) m e)

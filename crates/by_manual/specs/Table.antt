@@ -1,9 +1,8 @@
--- Request A9: the table of a reading by the manual, and the two readings by name.
+-- Request A9: the table of a reading by the manual, and the two readings.
 use Prim.Native.Nat.{ℕ, _/_, _%_}
+use mathlib.Core.Bool.{Bool, true, false}
 use Rattle.rows.specs.Row.{Row, Table}
 use Rattle.rows.specs.Groups.{known, document01}
-use Rattle.by_manual.specs.declared.Reading.{Reading}
-use Rattle.by_manual.specs.declared.Reading.the-variants.{Document01, Manual}
 use Rattle.by_manual.specs.Changed.{Change, stays, becomes, changeAt}
 
 abbrev pub changed : Change → Row → Row
@@ -14,7 +13,7 @@ changed (becomes w) r = w
 abbrev pub byManual : Table
 byManual = record { known = known; rowAt = λ a b. changed (changeAt a (b / 16) (b % 16)) (document01 .rowAt a b) }
 
--- chosen by name
-abbrev pub tableOf : Reading → Table
-tableOf Document01 = document01
-tableOf Manual = byManual
+-- of the two readings, by whether the manual's is meant
+abbrev pub tableBy : Bool → Table
+tableBy true = byManual
+tableBy false = document01

@@ -13,7 +13,7 @@ use record::Answer;
 use record::refusal;
 
 // 72 and 73; behind 7E, to C1, the first two of each eight, of which 7F is none.
-fn is_two(a: u8) -> bool
+pub fn is_two(a: u8) -> bool
     ensures { λ r. ⌜ r ≡ isTwo a ⌝ }
 {
     if a < 0x7F {
@@ -26,7 +26,7 @@ fn is_two(a: u8) -> bool
 }
 
 // EC and ED.
-fn is_list(a: u8) -> bool
+pub fn is_list(a: u8) -> bool
     ensures { λ r. ⌜ r ≡ isList a ⌝ }
 {
     a / 2 == 0x76

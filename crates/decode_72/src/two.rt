@@ -12,32 +12,36 @@ use record::Got;
 use record::Opcode;
 use record::refusal;
 
-// By the first byte's eighth, from 80 on; 72 and 73 stand near the end. NOP holds the places of no pair.
-const OPCODES: [Opcode; 16] = [
-    Opcode::TST,
-    Opcode::XOR,
-    Opcode::AND,
-    Opcode::OR,
-    Opcode::ADD,
-    Opcode::SUB,
-    Opcode::ADC,
-    Opcode::SBB,
-    Opcode::CMP,
-    Opcode::NOP,
-    Opcode::NOP,
-    Opcode::NOP,
-    Opcode::NOP,
-    Opcode::NOP,
-    Opcode::MOV,
-    Opcode::NOP,
-];
+// By the first byte's eighth, from 80 on; 72 and 73 stand near the end. A match of all sixteen is one look into a table of constants.
+fn opcode_of(a: u8) -> Opcode
+    ensures { λ r. ⌜ r ≡ opcodeOf a ⌝ }
+{
+    match a / 8 % 16 {
+        0 => Opcode::TST,
+        1 => Opcode::XOR,
+        2 => Opcode::AND,
+        3 => Opcode::OR,
+        4 => Opcode::ADD,
+        5 => Opcode::SUB,
+        6 => Opcode::ADC,
+        7 => Opcode::SBB,
+        8 => Opcode::CMP,
+        9 => Opcode::NOP,
+        10 => Opcode::NOP,
+        11 => Opcode::NOP,
+        12 => Opcode::NOP,
+        13 => Opcode::NOP,
+        14 => Opcode::MOV,
+        _ => Opcode::NOP,
+    }
+}
 
 // Source and destination: the source's bytes are read first.
 pub fn decode_two(bs: &[u8], a: u8, b: u8) -> Answer
     ensures { λ r. ⌜ r ≡ runRow (two (opcodeOf a) (widthOf (eqb (a % 2) 0)) (b / 16) (b % 16)) (now (bs .entry)) ⌝ }
 {
     let byte = a % 2 == 0;
-    let o = OPCODES[(a / 8 % 16) as usize];
+    let o = opcode_of(a);
     let h = b / 16;
     let source = general::general_name(byte, h);
     let dest = general::general_name(byte, b);

@@ -1,40 +1,32 @@
 -- The row that takes a code's place, told by how its first byte chooses it.
 -- Assumes nothing.
-use Prim.Native.Nat.{ℕ, _/_, _%_, _+_, _-_, _≤_, _<_}
-use mathlib.Core.Path.{_≡_, refl, sym, ap, _∙_}
+use Prim.Native.Nat.{ℕ, _/_, _%_, _-_, _≤_, _<_}
+use mathlib.Core.Path.{_≡_, refl, sym, ap, subst, _∙_}
 use mathlib.Core.Logic.{_⊎_, inl, inr}
 use mathlib.Core.Bool.{Bool, true, false, false≢true}
-use mathlib.Core.List.{List, [], _∷_}
+use mathlib.Core.List.{[], _∷_}
 use native.Mathlib.Omega.{arith}
 use lib.Dec.{eqb, leb, ltb}
-use borrow.Author.Tests.{eqb-true, eqb-false, leb-true, lt-leb, le-ltb}
+use borrow.Author.Tests.{eqb-true, leb-true, lt-leb, le-ltb}
 use Rattle.laws.specs.Choice.{pick}
-use Rattle.laws.specs.Range.{Each}
 use Rattle.laws.proofs.Agree.{Rest, agree-past}
-use Rattle.laws.proofs.Range.{each-from}
-use Rattle.record.specs.declared.Answer.{Answer}
 use Rattle.record.specs.declared.Opcode.{Opcode}
-use Rattle.record.specs.declared.Opcode.the-variants.{FCLR, FSET, MUL, MULU}
+use Rattle.record.specs.declared.Opcode.the-variants.{ADCF, BMGE, BMLT, BMNO, DIVU, DIVX, FCLR, FSET, JMPI, JSRI, MUL, MULU}
 use Rattle.record.specs.declared.Size.the-variants as size
 use Rattle.record.specs.declared.Width.{Width}
+use Rattle.record.specs.declared.Width.the-variants.{B, W}
 use Rattle.rows.specs.Row.{Row}
 use Rattle.rows.specs.Codes.{nameG, nameI, G, I, refuse}
-use Rattle.rows.specs.Rows.{row, sizeOf, badMul}
-use Rattle.rows.specs.Run.{runRow}
-use Rattle.readers.specs.steps.Width.{widthOf}
+use Rattle.rows.specs.Rows.{row, sizeOf, badMul, flagged}
 use Rattle.readers.proofs.Nibble.{upper}
-use Rattle.by_manual.specs.Changed.{Change, stays, becomes, mulu, mul, ldc, flag, change7A, change7C, changeEB, changeAt}
+use Rattle.by_manual.specs.Changed.{Change, stays, becomes, toStack, alone, mulu, mul, ldc, wordJump, flag, change76, change7A, change7C, change7D, changeEB, changeAt}
 use Rattle.by_manual.specs.Lists.{isChanged}
 use Rattle.by_manual.specs.Table.{changed, byManual}
-use Rattle.decode_changed.specs.steps.Rows.{newRow, mulAt, flagOpcode}
+use Rattle.decode_changed.specs.steps.Rows.{newRow, aloneOpcode, mulAt, flagOpcode, row7D, rowOf}
 
 new-row : (c : Change) (r : Row) → isChanged c ≡ true → newRow c ≡ changed c r
 new-row stays r e = absurd (false≢true e)
 new-row (becomes w) r e = refl
-
-pub in-place : (a b : ℕ) (bs : List ℕ) {x : Answer} → isChanged (changeAt a (b / 16) (b % 16)) ≡ true → x ≡ runRow (newRow (changeAt a (b / 16) (b % 16))) bs
-    → x ≡ runRow (byManual .rowAt a b) bs
-in-place a b bs new e = e ∙ ap (λ r. runRow r bs) (new-row (changeAt a (b / 16) (b % 16)) _ new)
 
 -- one row, or one of two or three rows that differ in their opcode, is chosen, if any is
 pub only : (x : Bool) (w : Row) → isChanged (pick x (becomes w) stays) ≡ true → w ≡ newRow (pick x (becomes w) stays)
@@ -81,16 +73,59 @@ flag-new h n = by (ltb h 8)
     by true e = one-of-two (λ o. flag o h) FSET FCLR (eqb n 4) (eqb n 5) e
     by false e = absurd (false≢true e)
 
--- of two first bytes, the even one has width B
-module _ (h n : ℕ) (rowBy : Width → Row) (even : ℕ) where
-  -- what a group's function decodes by at a first byte whose code is changed
-  abbrev Decodes : ℕ → Type 0
-  Decodes a = isChanged (changeAt a h n) ≡ true → rowBy (widthOf (eqb (a % 2) 0)) ≡ newRow (changeAt a h n)
+-- told by one value of a nibble, or of a first byte, after the other
+key : (P : ℕ → Type 0) (h k : ℕ) → P k → (eqb h k ≡ false → P h) → P h
+key P h k p q = by (eqb h k) refl
+  where
+    by : (x : Bool) → eqb h k ≡ x → P h
+    by true e = subst P (sym (eqb-true h k e)) p
+    by false e = q e
 
-  pub of-pair : Each (λ k. Decodes (even + k)) 2 → (a : ℕ) → even ≤ a → a < even + 2 → Decodes a
-  of-pair = each-from Decodes even 2
+-- the rows of 7D
+module _ (n : ℕ) where
+  Decoded7D : ℕ → Type 0
+  Decoded7D h = isChanged (change7D h n) ≡ true → row7D h n ≡ newRow (change7D h n)
 
--- of the other first bytes EB alone has such rows (the keys of a match are listed last first, and 74 to 77 are told by their bounds)
+  jumps : (h : ℕ) → eqb h 4 ≡ false → eqb h 5 ≡ false → eqb h 10 ≡ false → eqb h 11 ≡ false → eqb h 13 ≡ false → Decoded7D h
+  unfolding Decoded7D
+  jumps h e4 e5 e10 e11 e13 = rw (e4, e5, e10, e11, e13) (one-of-two (λ o. wordJump o n) JMPI JSRI (eqb h 2) (eqb h 3))
+
+  decoded-7D : (h : ℕ) → Decoded7D h
+  unfolding Decoded7D
+  decoded-7D h =
+      key Decoded7D h 4 (mul-new W 4 n) (λ e4. key Decoded7D h 5 (mul-new W 5 n) (λ e5. key Decoded7D h 10 (λ e. refl) (λ e10. key Decoded7D h 11 (λ e. refl) (λ e11.
+      key Decoded7D h 13 (one-of-three flagged BMGE BMNO BMLT (eqb n 10) (eqb n 13) (eqb n 14)) (jumps h e4 e5 e10 e11)))))
+
+pub new-7D : (h n : ℕ) → isChanged (change7D h n) ≡ true → row7D h n ≡ newRow (change7D h n)
+unfolding Decoded7D
+new-7D h n = decoded-7D n h
+
+-- the rows of all first bytes
+module _ (b : ℕ) (l : b < 256) where
+  Decoded : ℕ → Type 0
+  Decoded a = isChanged (changeAt a (b / 16) (b % 16)) ≡ true → rowOf a (b / 16) (b % 16) ≡ newRow (changeAt a (b / 16) (b % 16))
+
+  divided : (w : Width) → isChanged (change76 w (b / 16) (b % 16)) ≡ true → alone (aloneOpcode (b / 16)) w (b % 16) ≡ newRow (change76 w (b / 16) (b % 16))
+  divided w = one-of-three (λ o. alone o w (b % 16)) DIVX DIVU ADCF (eqb (b / 16) 9) (eqb (b / 16) 12) (eqb (b / 16) 14)
+
+  none : (a : ℕ) → eqb a 0x74 ≡ false → eqb a 0x75 ≡ false → eqb a 0x76 ≡ false → eqb a 0x77 ≡ false → eqb a 0x7A ≡ false → eqb a 0x7C ≡ false → eqb a 0x7D ≡ false
+      → eqb a 0xEB ≡ false → Decoded a
+  unfolding Decoded changeAt
+  none a e4 e5 e6 e7 eA eC eD eB = rw (e4, e5, e6, e7, eA, eC, eD, eB) (λ e. absurd (false≢true e))
+
+  decoded : (a : ℕ) → Decoded a
+  unfolding Decoded changeAt
+  decoded a =
+      key Decoded a 0x74 (only (eqb (b / 16) 3) (toStack B (b % 16))) (λ e4. key Decoded a 0x75 (only (eqb (b / 16) 3) (toStack W (b % 16))) (λ e5.
+      key Decoded a 0x76 (divided B) (λ e6. key Decoded a 0x77 (divided W) (λ e7. key Decoded a 0x7A (ldc-new b l) (λ eA. key Decoded a 0x7C (mul-new B (b / 16) (b % 16)) (λ eC.
+      key Decoded a 0x7D (new-7D (b / 16) (b % 16)) (λ eD. key Decoded a 0xEB (flag-new (b / 16) (b % 16)) (none a e4 e5 e6 e7 eA eC eD))))))))
+
+-- what is decoded at a changed code is the manual's
+pub in-place : (a b : ℕ) → b < 256 → isChanged (changeAt a (b / 16) (b % 16)) ≡ true → rowOf a (b / 16) (b % 16) ≡ byManual .rowAt a b
+unfolding Decoded
+in-place a b l new = decoded b l a new ∙ new-row (changeAt a (b / 16) (b % 16)) _ new
+
+-- other first bytes than these have none (the keys of a match are listed last first, and 74 to 77 are told by their bounds)
 module _ (h n : ℕ) where
   inPairs : ℕ → Bool
   inPairs a = pick (leb 0x74 a) (pick (ltb a 0x78) (isChanged (changeAt a h n)) false) false
@@ -110,11 +145,3 @@ module _ (h n : ℕ) where
 
   pub none-outside : (a : ℕ) → a < 256 → Rest (0xEB ∷ 0x7D ∷ 0x7C ∷ 0x7A ∷ []) a → (a < 0x74) ⊎ (0x78 ≤ a) → isChanged (changeAt a h n) ≡ false
   none-outside a l r o = no-others a l r ∙ outside a o
-
-  -- so what is left where a code is changed is EB
-  pub is-EB : (a : ℕ) → a < 256 → Rest (0x7D ∷ 0x7C ∷ 0x7A ∷ []) a → (a < 0x74) ⊎ (0x78 ≤ a) → isChanged (changeAt a h n) ≡ true → a ≡ 0xEB
-  is-EB a l r o e = by (eqb a 0xEB) refl
-    where
-      by : (x : Bool) → eqb a 0xEB ≡ x → a ≡ 0xEB
-      by true p = eqb-true a 0xEB p
-      by false p = absurd (false≢true (sym (none-outside a l (r, eqb-false a 0xEB p) o) ∙ e))

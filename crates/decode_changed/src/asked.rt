@@ -1,7 +1,7 @@
 // At which codes the rows stand, by first byte.
 ghost use mathlib.Core.Path.{_≡_};
 ghost use Prim.Native.Nat.{_/_, _%_};
-ghost use Rattle.by_manual.specs.Changed.{change74, change76, change7A, change7C, change7D, changeEB, changeAt};
+ghost use Rattle.by_manual.specs.Changed.{change74, change76, change7A, change7C, change7D, changeEB};
 ghost use Rattle.by_manual.specs.Lists.{isChanged};
 ghost use Rattle.record.specs.declared.Width.{Width};
 use readers::set;
@@ -52,18 +52,4 @@ pub fn in_EB(b: u8) -> bool
         return b % 16 / 2 == 2;
     }
     false
-}
-
-pub fn is_changed(a: u8, b: u8) -> bool
-    ensures { λ r. ⌜ r ≡ isChanged (changeAt a (b / 16) (b % 16)) ⌝ }
-{
-    match a {
-        0x74 | 0x75 => in_74(b),
-        0x76 | 0x77 => in_76(b),
-        0x7A => in_7A(b),
-        0x7C => in_7C(b),
-        0x7D => in_7D(b),
-        0xEB => in_EB(b),
-        _ => false,
-    }
 }

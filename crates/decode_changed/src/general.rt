@@ -20,7 +20,7 @@ use record::Width;
 use record::refusal;
 
 // 74/75 3n, MOV to the stack: the source is read, then SP's byte.
-pub(crate) fn to_stack(bs: &[u8], byte: bool, b: u8) -> Answer
+pub fn to_stack(bs: &[u8], byte: bool, b: u8) -> Answer
     ensures { λ r. ⌜ r ≡ runRow (toStack (widthOf byte) (b % 16)) (now (bs .entry)) ⌝ }
 {
     let source = general::general_name(byte, b);
@@ -45,7 +45,7 @@ fn alone_opcode(h: u8) -> Opcode
 }
 
 // 76/77 9n DIVX, Cn DIVU, En ADCF: G(n) alone.
-pub(crate) fn alone(bs: &[u8], byte: bool, b: u8) -> Answer
+pub fn alone(bs: &[u8], byte: bool, b: u8) -> Answer
     ensures { λ r. ⌜ r ≡ runRow (alone (aloneOpcode (b / 16)) (widthOf byte) (b % 16)) (now (bs .entry)) ⌝ }
 {
     let o = alone_opcode(b / 16);
@@ -57,7 +57,7 @@ pub(crate) fn alone(bs: &[u8], byte: bool, b: u8) -> Answer
 }
 
 // 7A from 80 on, LDC: G is read, then the control register judged. The names are those at W.
-pub(crate) fn load_control(bs: &[u8], b: u8) -> Answer
+pub fn load_control(bs: &[u8], b: u8) -> Answer
     ensures { λ r. ⌜ r ≡ runRow (ldc (b / 16 % 8) (b % 16)) (now (bs .entry)) ⌝ }
 {
     let k = b / 16 % 8;
@@ -91,7 +91,7 @@ fn mul_size(byte: bool, h: u8) -> Size
 }
 
 // 7C/7D 4n MULU, 5n MUL: G(n) is judged and read, then the immediate.
-pub(crate) fn mul_immediate(bs: &[u8], byte: bool, b: u8) -> Answer
+pub fn mul_immediate(bs: &[u8], byte: bool, b: u8) -> Answer
     ensures { λ r. ⌜ r ≡ runRow (mulAt (widthOf byte) (b / 16) (b % 16)) (now (bs .entry)) ⌝ }
 {
     if mul::bad_mul(byte, b % 16) {

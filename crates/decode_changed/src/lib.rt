@@ -1,22 +1,17 @@
 // The rows that request A9 changes to the manual's: at which codes they stand, and what stands behind these, by the second byte b.
 pub mod asked; // whether a code has one
-mod general; // those that read G(n)
-mod within; // those whose number, if any, is part of the code
+pub mod general; // those that read G(n)
+pub mod within; // those whose number, if any, is part of the code
 
 ghost use mathlib.Core.Path.{_≡_};
-ghost use mathlib.Core.Bool.{true};
 ghost use Prim.Native.Nat.{_/_, _%_};
 ghost use Rattle.rows.specs.Run.{runRow};
-ghost use Rattle.by_manual.specs.Changed.{change7D, changeAt};
-ghost use Rattle.by_manual.specs.Lists.{isChanged};
-ghost use Rattle.by_manual.specs.Table.{byManual};
-ghost use Rattle.decode_changed.specs.steps.Rows.{newRow};
+ghost use Rattle.decode_changed.specs.steps.Rows.{row7D, rowOf};
 use record::Answer;
 
 // 7D, by the high nibble: the word jumps, MULU and MUL, LDIPL, ADD, and conditions.
-fn decode_7D(bs: &[u8], b: u8) -> Answer
-    requires { ⌜ isChanged (change7D (b / 16) (b % 16)) ≡ true ⌝ }
-    ensures { λ r. ⌜ r ≡ runRow (newRow (change7D (b / 16) (b % 16))) (now (bs .entry)) ⌝ }
+pub fn decode_7D(bs: &[u8], b: u8) -> Answer
+    ensures { λ r. ⌜ r ≡ runRow (row7D (b / 16) (b % 16)) (now (bs .entry)) ⌝ }
 {
     match b / 16 {
         4 => general::mul_immediate(bs, false, b),
@@ -28,10 +23,9 @@ fn decode_7D(bs: &[u8], b: u8) -> Answer
     }
 }
 
-// One of these rows: the code has one.
+// One of these rows, where the code has one.
 pub fn decode_changed(bs: &[u8], a: u8, b: u8) -> Answer
-    requires { ⌜ isChanged (changeAt a (b / 16) (b % 16)) ≡ true ⌝ }
-    ensures { λ r. ⌜ r ≡ runRow (byManual .rowAt a b) (now (bs .entry)) ⌝ }
+    ensures { λ r. ⌜ r ≡ runRow (rowOf a (b / 16) (b % 16)) (now (bs .entry)) ⌝ }
 {
     match a {
         0x74 | 0x75 => general::to_stack(bs, a % 2 == 0, b),

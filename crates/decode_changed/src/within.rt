@@ -90,7 +90,7 @@ fn flag_opcode(n: u8) -> Opcode
 }
 
 // EB h4 FSET, h5 FCLR: the flag is h.
-pub(crate) fn flag(b: u8) -> Answer
+pub fn flag(b: u8) -> Answer
     ensures { λ r. ⌜ ((bs : List ℕ) → r ≡ runRow (flag (flagOpcode (b % 16)) (b / 16)) bs) ⌝ }
 {
     answer::accept(

@@ -4,4 +4,6 @@ pub mod Value
 pub mod Found
 pub mod Tagged
 pub mod Ordered
+pub mod Wholly
+pub mod Readings
 pub mod Taken

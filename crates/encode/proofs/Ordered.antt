@@ -27,6 +27,7 @@ use Rattle.rows.specs.Rows.{row}
 use Rattle.rows.specs.Pairs.{two, pairs}
 use Rattle.rows.specs.Groups.{Group, groups, bothWidths, known, rowsOf, document01}
 use Rattle.rows.proofs.All.{each-first, tested, joined}
+use Rattle.by_manual.specs.Lists.{everyChanged}
 use Rattle.encode_rules.specs.steps.Can.{exact, fits}
 use Rattle.encode_rules.specs.steps.Digits.{digits}
 use Rattle.encode_rules.specs.steps.Search.{condByte, disps, imms, conds, spell, live, aim}
@@ -37,6 +38,7 @@ use Rattle.encode_choice.specs.steps.Forms.{numberLimit}
 use Rattle.encode_choice.specs.steps.Choose.{word}
 use Rattle.encode_choice.proofs.Formed.{meant}
 use Rattle.encode_choice.proofs.Pairs.{even, opcode, Sided, at-bytes, rows}
+use Rattle.encode_added.proofs.Added.{kept, added, each-added}
 use Rattle.encode.specs.steps.Faced.{conditions}
 use Rattle.encode.specs.steps.Slots as slots
 use Rattle.encode.specs.steps.Slots.{countOf, limitOf, turns, count0}
@@ -93,7 +95,7 @@ abbrev allRead : Row → Bool
 allRead w = both (isRead (wholeRow (w .face)) (fieldOf (w .face .op0)) (imms (w .reads))) (isRead false (fieldOf (w .face .op1)) (imms (w .reads)))
 
 -- of a row, and how many conditions it reads
-rowNamed : Row → ℕ → Bool
+pub rowNamed : Row → ℕ → Bool
 rowNamed w c = pick (live w) (both (inOrder w c) (both (limited w) (allRead w))) true
 
 abbrev AllNamed : ℕ → Type 0
@@ -127,9 +129,9 @@ module _ (k : ℕ) (l : k < 10) (w : Width) (t : Sided w) where
   two-named b h =
       subst T (λ i. rowNamed (sym (rows w t k l) i (b / 16) (b % 16)) (sym (unconditional b) i)) (upto-at (λ b. rowNamed (two (opcode k) w (b / 16) (b % 16)) 0) 256 (all-two (opcode k) w t) b h)
 
-all-named : (a : ℕ) → known a ≡ true → AllNamed a
+named-here : (a : ℕ) → known a ≡ true → AllNamed a
 unfolding groups
-all-named =
+named-here =
     each-first AllNamed
     (joined AllNamed single (bothWidths pairs [])
     (every-single single (tested (λ a. upto (λ b. rowNamed (document01 .rowAt a b) (conditions a b)) 256) single all-single)) (at-bytes AllNamed two-named))
@@ -137,6 +139,18 @@ all-named =
     every-single : (gs : List Group) → EachFirst (λ a. T (upto (λ b. rowNamed (document01 .rowAt a b) (conditions a b)) 256)) gs → EachFirst AllNamed gs
     every-single [] t = tt
     every-single (g ∷ gs) t = (upto-at (λ b. rowNamed (document01 .rowAt (g .byte) b) (conditions (g .byte) b)) 256 (t .0), every-single gs (t .1))
+
+-- so of document 01's rows, and of the changed ones whose code goes by their names
+pub document-named : (a b : ℕ) → known a ≡ true → b < 256 → T (rowNamed (document01 .rowAt a b) (conditions a b))
+document-named a b e l = named-here a e b l
+
+all-changed : T (everyChanged (λ a b w. rowNamed (kept w) (conditions a b)))
+unfolding everyChanged upto rowNamed row same some tagsBy aim limitOf turns countOf sameName among disps imms fieldOf baseOf whole
+all-changed = tt
+
+pub added-named : (a b : ℕ) → known a ≡ true → b < 256 → T (rowNamed (added .rowAt a b) (conditions a b))
+unfolding rowNamed row
+added-named a b e l = subst T (sym (each-added (λ a b w. rowNamed w (conditions a b)) (λ a b. refl) all-changed a b l)) tt
 
 either-way : (x y : Bool) {A : Type 0} → T (either x y) → (T x → A) → (T y → A) → A
 either-way true y t f g = f tt
@@ -148,20 +162,18 @@ both-turned true false = refl
 both-turned false true = refl
 both-turned false false = refl
 
-module _ (a b : ℕ) (e : known a ≡ true) (l : b < 256) (v : live (document01 .rowAt a b) ≡ true) (k : Key) where
-  abbrev w : Row
-  w = document01 .rowAt a b
-
-  in-words : T (both (inOrder w (conditions a b)) (both (limited w) (allRead w)))
+-- a live row that passes, with c conditions
+module _ (w : Row) (c : ℕ) (named : T (rowNamed w c)) (v : live w ≡ true) (k : Key) where
+  in-words : T (both (inOrder w c) (both (limited w) (allRead w)))
   unfolding rowNamed
-  in-words = picked _ _ (all-named a e b l) v
+  in-words = picked _ _ named v
 
   -- the bytes behind a code
-  pub ordered : spell (document01 .rowAt a b .reads) (aim (document01 .rowAt a b .face) k) ≡ slots.slots (document01 .rowAt a b .face) (conditions a b) k
+  pub ordered : spell (w .reads) (aim (w .face) k) ≡ slots.slots (w .face) c k
   ordered =
       read-out k (w .face) (w .reads)
-      ∙ spell-alike (readTags (w .face) (w .reads)) (writtenTags (w .face) (turns (w .face .op0)) (eqb (conditions a b) 0)) (both-left (inOrder w (conditions a b)) _ in-words) k
-      ∙ sym (written-out k (w .face) (conditions a b))
+      ∙ spell-alike (readTags (w .face) (w .reads)) (writtenTags (w .face) (turns (w .face .op0)) (eqb c 0)) (both-left (inOrder w c) _ in-words) k
+      ∙ sym (written-out k (w .face) c)
 
   -- each number fits where the row reads it, or is the row's own
   abbrev pub sayable : Bool
@@ -178,7 +190,7 @@ module _ (a b : ℕ) (e : known a ≡ true) (l : b < 256) (v : live (document01 
       let x1 = fieldOf (w .face .op1) in
       let n = imms (w .reads) in
       let part = wholeRow (w .face) in
-      let rest = both-right (inOrder w (conditions a b)) _ in-words in
+      let rest = both-right (inOrder w c) _ in-words in
       let read = both-right (limited w) _ rest in
       let x = ltb (k .number0) (limitOf (w .face .op0)) in
       let y = ltb (k .number1) (limitOf (w .face .op1)) in

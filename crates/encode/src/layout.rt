@@ -92,18 +92,25 @@ fn in_order(a: u8, b: u8, turned: bool, n: u8, v: u32, m: u8, w: u32) -> Plan
     }
 }
 
-// No plan: first byte 0.
-pub(crate) fn no_plan() -> Plan
-    ensures { λ r. ⌜ (planned r ≡ 0 ∷ 0 ∷ []) × (r .count ≤ 3) × (r .«rest_count» ≤ 3) ⌝ }
+// A code and nothing behind it.
+pub(crate) fn alone(a: u8, b: u8) -> Plan
+    ensures { λ r. ⌜ (planned r ≡ a ∷ b ∷ []) × (r .count ≤ 3) × (r .«rest_count» ≤ 3) ⌝ }
 {
     Plan {
-        first: 0,
-        second: 0,
+        first: a,
+        second: b,
         count: 0,
         number: 0,
         rest_count: 0,
         rest: 0,
     }
+}
+
+// No plan: first byte 0.
+pub(crate) fn no_plan() -> Plan
+    ensures { λ r. ⌜ (planned r ≡ 0 ∷ 0 ∷ []) × (r .count ≤ 3) × (r .«rest_count» ≤ 3) ⌝ }
+{
+    alone(0, 0)
 }
 
 // A code and what stands behind it, if each number is small enough for its bytes; c is 1 if that is a condition.

@@ -11,7 +11,8 @@ ghost use mathlib.Core.Bool.{true};
 ghost use Prim.Native.Nat.{_≤_};
 ghost use Rattle.record.specs.declared.Operand.the-variants.{Nothing};
 ghost use Rattle.record.specs.Same.{sameName};
-ghost use Rattle.encode_choice.specs.steps.Choose.{encoded};
+ghost use Rattle.by_manual.specs.Table.{tableBy};
+ghost use Rattle.encode_added.specs.steps.Choose.{encodedBy};
 ghost use Rattle.encode_rules.specs.Written.{outcome, Encodes};
 ghost use Rattle.encode.specs.steps.Faced as faced;
 ghost use Rattle.encode.specs.steps.Plan.{foundBy};
@@ -49,30 +50,34 @@ fn conditions(a: u8, b: u8) -> u8
     0
 }
 
-// How the chosen code encodes a record: its row has the names that were asked for.
-fn find(r: Record) -> Plan
+// How the code that a reading chooses encodes a record: its row has the names that were asked for.
+fn find(r: Record, manual: bool) -> Plan
     requires { ⌜ sameName (r .op2) Nothing ≡ true ⌝ }
-    ensures { λ p. ⌜ (foundBy p ≡ encoded r) × (p .count ≤ 3) × (p .«rest_count» ≤ 3) ⌝ }
+    ensures { λ p. ⌜ (foundBy p ≡ encodedBy manual r) × (p .count ≤ 3) × (p .«rest_count» ≤ 3) ⌝ }
 {
     let k = key::key_of(r);
     let opcode = k.opcode;
     let q = asks::asked(k);
-    let c = encode_choice::choose(opcode, q);
-    if c.first == 0 {
+    let c = encode_added::choose(manual, opcode, q, k.number0);
+    let code = c.code;
+    if code.first == 0 {
         return layout::no_plan();
     }
-    let b = c.second as u8;
-    layout::plan_of(c.first, b, q, conditions(c.first, b), k)
+    let b = code.second as u8;
+    if c.whole {
+        return layout::alone(code.first, b);
+    }
+    layout::plan_of(code.first, b, q, conditions(code.first, b), k)
 }
 
-// The shortest byte string, then the first in byte order, of all that decode by unmarked rows to the same instruction, from a place
-// of a buffer on. 5 if there is none, and then 6 with too little room; refused, it touches nothing.
-pub fn encode(r: Record, buf: &mut [u8], place: usize) -> Encoded
-    ensures { λ e. ⌜ Encodes r (now (buf .entry)) place (outcome (e .refusal) (e .length) (now (buf .exit))) ⌝ }
+// The shortest byte string, then the first in byte order, of all that decode by unmarked rows of a reading to the same instruction, from a
+// place of a buffer on. 5 if there is none, and then 6 with too little room; refused, it touches nothing.
+pub fn encode(r: Record, manual: bool, buf: &mut [u8], place: usize) -> Encoded
+    ensures { λ e. ⌜ Encodes (tableBy manual) r (now (buf .entry)) place (outcome (e .refusal) (e .length) (now (buf .exit))) ⌝ }
 {
     let op2 = r.op2;
     if fields::same_name(op2, Operand::Nothing) {
-        let p = find(r);
+        let p = find(r, manual);
         if p.first != 0 {
             return write::write_at(buf, place, p);
         }

@@ -1,7 +1,7 @@
 -- The direct choice is right for document 01.
 -- Assumes nothing.
 use Prim.Native.Nat.{ℕ, _<_}
-use mathlib.Core.Path.{_≡_, refl}
+use mathlib.Core.Path.{_≡_, refl, ap}
 use mathlib.Core.Bool.{Bool, true, false}
 use lib.Dec.{T}
 use Rattle.laws.specs.Choice.{pick, both}
@@ -13,8 +13,9 @@ use Rattle.rows.specs.Groups.{known, rowsOf, document01}
 use Rattle.rows.proofs.All.{every-code}
 use Rattle.encode_rules.specs.Says.{Right}
 use Rattle.encode_rules.specs.steps.Search.{imms, best}
+use Rattle.encode_rules.specs.steps.Direct.{able, Beats}
 use Rattle.encode_choice.specs.steps.Coarse.{regular, coarse, wholeKey, whole, roughly}
-use Rattle.encode_choice.specs.steps.Choose.{choose, chooseNamed, dropsZero, narrow, encoded}
+use Rattle.encode_choice.specs.steps.Choose.{asked, choose, chooseNamed, dropsZero, narrow, encoded}
 use Rattle.encode_rules.proofs.Bools.{so}
 use Rattle.encode_rules.proofs.Optimal.{unique}
 use Rattle.encode_rules.proofs.Here.{plains, by-search}
@@ -38,21 +39,27 @@ exactly : (b : Bool) (v : ℕ) → pick b (roughly b v) 0 ≡ pick b v 0
 exactly true v = refl
 exactly false v = refl
 
-steady : (k : Key) → choose (coarse k) ≡ choose k
-steady k =
+pub asked-steady : (k : Key) → asked (coarse k) ≡ asked k
+asked-steady k =
     let x = like-roughly (wholeKey k) (k .number0) in
     let y = like-roughly (wholeKey k) (k .number1) in
     let n = exactly (wholeKey k) (k .number0) in
-    λ i. chooseNamed (k .opcode) (record {
+    λ i. record {
       size = k .size;
       width = k .width;
       op0 = narrow (k .base0) (both (dropsZero (k .opcode)) (x .zero? i)) (x .byte? i);
       op1 = narrow (k .base1) (y .zero? i) (y .byte? i);
       number = n i;
-    })
+    }
+
+steady : (k : Key) → choose (coarse k) ≡ choose k
+steady k = ap (chooseNamed (k .opcode)) (asked-steady k)
+
+pub chosen-beats : (a b : ℕ) (k : Key) → able document01 a b k ≡ true → Beats document01 (choose k) a b k
+chosen-beats = beats document01 choose regulars tested steady
 
 pub chosen : (r : Record) → Right document01 r (encoded r)
-chosen = direct document01 plains choose (beats document01 choose regulars tested steady)
+chosen = direct document01 plains choose chosen-beats
 
 -- so it is the search's answer
 pub as-best : (r : Record) → encoded r ≡ best document01 (key r)

@@ -182,14 +182,14 @@ opcodes-at (suc n) o p f t h m =
     (so _ (upto-at (λ v. onCond (condOf v) f) 256 (true-t t) (condByte p) (cond-small p)))
 
 -- a number of a whole row is the row's
-alone0 : (p q : Field) (n m v : ℕ) → alone p q ≡ true → n ≡ 0 → exact p n m v ≡ true → v ≡ m
+pub alone0 : (p q : Field) (n m v : ℕ) → alone p q ≡ true → n ≡ 0 → exact p n m v ≡ true → v ≡ m
 alone0 wide q zero m v a z x = eqb-true _ _ x
 alone0 wide q (suc n) m v a z x = absurd (omega arith)
 alone0 nowhere q n m v a z x = let y : _≡_ {A = ℕ} 0 1 = cc in absurd (omega arith)
 alone0 short q n m v a z x = let y : _≡_ {A = ℕ} 0 1 = cc in absurd (omega arith)
 alone0 early q n m v a z x = let y : _≡_ {A = ℕ} 0 1 = cc in absurd (omega arith)
 
-alone1 : (p q : Field) (n m v : ℕ) → alone p q ≡ true → exact q n m v ≡ true → v ≡ 0
+pub alone1 : (p q : Field) (n m v : ℕ) → alone p q ≡ true → exact q n m v ≡ true → v ≡ 0
 alone1 wide nowhere n m v a x = eqb-true _ _ x
 alone1 wide wide n m v a x = let y : _≡_ {A = ℕ} 0 1 = cc in absurd (omega arith)
 alone1 wide short n m v a x = let y : _≡_ {A = ℕ} 0 1 = cc in absurd (omega arith)

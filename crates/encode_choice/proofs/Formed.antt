@@ -18,7 +18,7 @@ use Rattle.record.specs.Same.{sameName, among, fieldOf, baseOf}
 use Rattle.record.proofs.Apart.{sizes-apart, widths-apart, opcodes, operands-apart}
 use Rattle.record.proofs.Arms.{every-opcode}
 use Rattle.rows.specs.Codes.{condOf}
-use Rattle.rows.specs.Row.{Row}
+use Rattle.rows.specs.Row.{Row, Table}
 use Rattle.rows.specs.Rows.{row}
 use Rattle.rows.specs.Pairs.{two}
 use Rattle.rows.specs.Groups.{known, rowsOf, document01}
@@ -49,19 +49,57 @@ has w o q =
     (both (eqb (operandNo (w .face .op0)) (operandNo (q .op0)))
     (both (eqb (operandNo (w .face .op1)) (operandNo (q .op1))) (both (eqb (w .number) (q .number)) (meant (conds (w .reads)) o)))))))
 
-abbrev hasAt : Choice → Opcode → Asked → Bool
-hasAt (code a b) o q = both (there document01 a b) (has (document01 .rowAt a b) o q)
-hasAt nothing o q = true
-
-abbrev ask : Opcode → Width → Operand → Operand → ℕ → Asked
-ask o w x y v = record { size = sizeFor (formOf o) w; width = w; op0 = x; op1 = y; number = v }
-
 -- how many numbers may be part of the code
 abbrev numbers : Width → Operand → ℕ
 numbers w x = pick (whole w x) (numberLimit x) 1
 
+-- the row at a code of a table has them
+module _ (t : Table) where
+  abbrev pub hasAt : Choice → Opcode → Asked → Bool
+  hasAt (code a b) o q = both (there t a b) (has (t .rowAt a b) o q)
+  hasAt nothing o q = true
+
+  pub record Formed (a b : ℕ) (o : Opcode) (q : Asked) : Type 0 where
+    pub there : there t a b ≡ true
+    pub lives : live (t .rowAt a b) ≡ true
+    pub opcode : named (conds (t .rowAt a b .reads)) (t .rowAt a b .face .opcode) o ≡ true
+    pub size : t .rowAt a b .face .size ≡ q .size
+    pub width : t .rowAt a b .face .width ≡ q .width
+    pub op0 : t .rowAt a b .face .op0 ≡ q .op0
+    pub op1 : t .rowAt a b .face .op1 ≡ q .op1
+    pub number : t .rowAt a b .number ≡ q .number
+    pub ranged : q .number < numbers (q .width) (q .op0)
+    pub condition : meant (conds (t .rowAt a b .reads)) o ≡ true
+
+  pub from-test : (a b : ℕ) (o : Opcode) (q : Asked) → q .number < numbers (q .width) (q .op0) → hasAt (code a b) o q ≡ true → Formed a b o q
+  from-test a b o q r h =
+      let w = t .rowAt a b in
+      let x = both-true (there t a b) _ h in
+      let x1 = both-true (live w) _ (x .1) in
+      let x2 = both-true (named (conds (w .reads)) (w .face .opcode) o) _ (x1 .1) in
+      let x3 = both-true (eqb (sizeNo (w .face .size)) (sizeNo (q .size))) _ (x2 .1) in
+      let x4 = both-true (eqb (widthNo (w .face .width)) (widthNo (q .width))) _ (x3 .1) in
+      let x5 = both-true (eqb (operandNo (w .face .op0)) (operandNo (q .op0))) _ (x4 .1) in
+      let x6 = both-true (eqb (operandNo (w .face .op1)) (operandNo (q .op1))) _ (x5 .1) in
+      let x7 = both-true (eqb (w .number) (q .number)) _ (x6 .1) in
+      record {
+        there = x .0;
+        lives = x1 .0;
+        opcode = x2 .0;
+        size = sizes-apart _ _ (eqb-true _ _ (x3 .0));
+        width = widths-apart _ _ (eqb-true _ _ (x4 .0));
+        op0 = operands-apart _ _ (eqb-true _ _ (x5 .0));
+        op1 = operands-apart _ _ (eqb-true _ _ (x6 .0));
+        number = eqb-true _ _ (x7 .0);
+        ranged = r;
+        condition = x7 .1;
+      }
+
+abbrev ask : Opcode → Width → Operand → Operand → ℕ → Asked
+ask o w x y v = record { size = sizeFor (formOf o) w; width = w; op0 = x; op1 = y; number = v }
+
 abbrev numberTest : Width → Opcode → Operand → Operand → Bool
-numberTest w o x y = upto (λ v. hasAt (chooseBy o (ask o w x y v)) o (ask o w x y v)) (numbers w x)
+numberTest w o x y = upto (λ v. hasAt document01 (chooseBy o (ask o w x y v)) o (ask o w x y v)) (numbers w x)
 
 -- request A7: names of General on both sides are not tested one by one, since a law below is for all of them
 abbrev twoGeneral : Width → Opcode → Operand → Operand → Bool
@@ -79,41 +117,6 @@ unfolding formTest paired upto rowsOf known condOf condByte chooseBy place formO
 tested B = tt
 tested W = tt
 tested None = tt
-
-pub record Formed (a b : ℕ) (o : Opcode) (q : Asked) : Type 0 where
-  pub there : there document01 a b ≡ true
-  pub lives : live (document01 .rowAt a b) ≡ true
-  pub opcode : named (conds (document01 .rowAt a b .reads)) (document01 .rowAt a b .face .opcode) o ≡ true
-  pub size : document01 .rowAt a b .face .size ≡ q .size
-  pub width : document01 .rowAt a b .face .width ≡ q .width
-  pub op0 : document01 .rowAt a b .face .op0 ≡ q .op0
-  pub op1 : document01 .rowAt a b .face .op1 ≡ q .op1
-  pub number : document01 .rowAt a b .number ≡ q .number
-  pub ranged : q .number < pick (whole (q .width) (q .op0)) (numberLimit (q .op0)) 1
-  pub condition : meant (conds (document01 .rowAt a b .reads)) o ≡ true
-
-from-test : (a b : ℕ) (o : Opcode) (q : Asked) → q .number < numbers (q .width) (q .op0) → hasAt (code a b) o q ≡ true → Formed a b o q
-from-test a b o q r h =
-    let x = both-true (there document01 a b) _ h in
-    let x1 = both-true (live (document01 .rowAt a b)) _ (x .1) in
-    let x2 = both-true (named (conds (document01 .rowAt a b .reads)) (document01 .rowAt a b .face .opcode) o) _ (x1 .1) in
-    let x3 = both-true (eqb (sizeNo (document01 .rowAt a b .face .size)) (sizeNo (q .size))) _ (x2 .1) in
-    let x4 = both-true (eqb (widthNo (document01 .rowAt a b .face .width)) (widthNo (q .width))) _ (x3 .1) in
-    let x5 = both-true (eqb (operandNo (document01 .rowAt a b .face .op0)) (operandNo (q .op0))) _ (x4 .1) in
-    let x6 = both-true (eqb (operandNo (document01 .rowAt a b .face .op1)) (operandNo (q .op1))) _ (x5 .1) in
-    let x7 = both-true (eqb (document01 .rowAt a b .number) (q .number)) _ (x6 .1) in
-    record {
-      there = x .0;
-      lives = x1 .0;
-      opcode = x2 .0;
-      size = sizes-apart _ _ (eqb-true _ _ (x3 .0));
-      width = widths-apart _ _ (eqb-true _ _ (x4 .0));
-      op0 = operands-apart _ _ (eqb-true _ _ (x5 .0));
-      op1 = operands-apart _ _ (eqb-true _ _ (x6 .0));
-      number = eqb-true _ _ (x7 .0);
-      ranged = r;
-      condition = x7 .1;
-    }
 
 -- a number is asked for only where it is part of the code
 in-range : (w : Width) (x : Operand) (v : ℕ) → at w true true (ltb v (numberLimit x)) ≡ true → (whole w x ≡ false → v ≡ 0) → v < numbers w x
@@ -139,7 +142,7 @@ not-whole None x t = absurd t
 -- the codes of two names of General are the second byte of a pair's row, which names them again
 two-formed : (k : ℕ) → k < 10 → (q : Asked) → among (general (q .width)) (q .op0) ≡ true → among (general (q .width)) (q .op1) ≡ true
     → q .size ≡ sizeFor (formOf (opcode k)) (q .width) → (whole (q .width) (q .op0) ≡ false → q .number ≡ 0) → q .number < numbers (q .width) (q .op0)
-    → Formed (even k + word (q .width)) (16 * codeOf (q .op0) + codeOf (q .op1)) (opcode k) q
+    → Formed document01 (even k + word (q .width)) (16 * codeOf (q .op0) + codeOf (q .op1)) (opcode k) q
 unfolding two row conds
 two-formed k l q m0 m1 s z r =
     let w = q .width in
@@ -161,10 +164,10 @@ two-formed k l q m0 m1 s z r =
     }
 
 abbrev FormedAt : Choice → Opcode → Asked → Type 0
-FormedAt (code a b) o q = Formed a b o q
+FormedAt (code a b) o q = Formed document01 a b o q
 FormedAt nothing o q = Unit {0}
 
-pub formed : (o : Opcode) (q : Asked) (a b : ℕ) → goesWith (formOf o) q ≡ true → (whole (q .width) (q .op0) ≡ false → q .number ≡ 0) → chooseBy o q ≡ code a b → Formed a b o q
+pub formed : (o : Opcode) (q : Asked) (a b : ℕ) → goesWith (formOf o) q ≡ true → (whole (q .width) (q .op0) ≡ false → q .number ≡ 0) → chooseBy o q ≡ code a b → Formed document01 a b o q
 unfolding goesWith formTest
 formed o q a b g z e =
     let x = both-true (eqb (sizeNo (q .size)) (sizeNo (sizeFor (formOf o) (q .width)))) _ g in
@@ -176,14 +179,14 @@ formed o q a b g z e =
     by (sizes-apart _ _ (eqb-true _ _ (x .0))) (in-range (q .width) (q .op0) (q .number) (u .1) z) (twoGeneral (q .width) o (q .op0) (q .op1)) refl t1
   where
     by : q .size ≡ sizeFor (formOf o) (q .width) → q .number < numbers (q .width) (q .op0)
-        → (c : Bool) → twoGeneral (q .width) o (q .op0) (q .op1) ≡ c → T (pick c true (numberTest (q .width) o (q .op0) (q .op1))) → Formed a b o q
+        → (c : Bool) → twoGeneral (q .width) o (q .op0) (q .op1) ≡ c → T (pick c true (numberTest (q .width) o (q .op0) (q .op1))) → Formed document01 a b o q
     by s r true c t =
         let x = both-true (paired o) _ c in
         let y = both-true (among (general (q .width)) (q .op0)) _ (x .1) in
-        at-opcode (λ o. q .size ≡ sizeFor (formOf o) (q .width) → chooseBy o q ≡ code a b → Formed a b o q)
+        at-opcode (λ o. q .size ≡ sizeFor (formOf o) (q .width) → chooseBy o q ≡ code a b → Formed document01 a b o q)
         (λ k l s e. subst (λ c. FormedAt c (opcode k) q) (sym (chosen k l q (y .0) (y .1)) ∙ e) (two-formed k l q (y .0) (y .1) s z r))
         o (x .0) s e
     by s r false c t =
         let t2 = upto-at _ (numbers (q .width) (q .op0)) t (q .number) r in
         let same : ask o (q .width) (q .op0) (q .op1) (q .number) ≡ q = λ j. record { size = sym s j; width = q .width; op0 = q .op0; op1 = q .op1; number = q .number } in
-        from-test a b o q r (subst (λ c. hasAt c o q ≡ true) e (subst (λ q. hasAt (chooseBy o q) o q ≡ true) same (so _ t2)))
+        from-test document01 a b o q r (subst (λ c. hasAt document01 c o q ≡ true) e (subst (λ q. hasAt document01 (chooseBy o q) o q ≡ true) same (so _ t2)))

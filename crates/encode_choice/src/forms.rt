@@ -13,7 +13,7 @@ use record::Operand;
 use record::Width;
 use record::fields;
 
-fn all_in(s: Sets, q: Asked) -> bool
+pub fn all_in(s: Sets, q: Asked) -> bool
     ensures { λ r. ⌜ r ≡ allIn (s .0) (s .1) q ⌝ }
 {
     let size = q.size;

@@ -1,8 +1,8 @@
 // The direct choice of a code that encodes a record: one clause an opcode.
 pub mod names; // what a name is, by its number
 pub mod asks; // what the choice asks of a key
-mod shapes; // codes that several opcodes have in common
-mod single; // codes that one opcode has
+pub mod shapes; // codes that several opcodes have in common
+pub mod single; // codes that one opcode has
 pub mod forms; // which size and names go with an opcode
 mod sets; // names as bits
 pub mod name_sets; // the code of each name, the form of each opcode, the sets of each form

@@ -50,7 +50,7 @@ pub enum Form {
 
 pub struct Sets(pub u64, pub u64);
 
-pub(crate) fn code_of(o: Operand) -> u8
+pub fn code_of(o: Operand) -> u8
     ensures { λ r. ⌜ (r ≡ codeOf o) × (r ≤ 15) ⌝ }
 {
     match o {

@@ -1,6 +1,6 @@
 // Codes that several opcodes have in common, by the high nibble h or the like; n is the code of an operand.
 ghost use mathlib.Core.Path.{_≡_};
-ghost use Prim.Native.Nat.{_≤_};
+ghost use Prim.Native.Nat.{_≤_, _*_, _/_, _%_};
 ghost use Rattle.encode_choice.specs.steps.Choose as choice;
 ghost use Rattle.encode_choice.specs.steps.Coded.{coded};
 use crate::Asked;
@@ -64,6 +64,19 @@ pub(crate) fn binary(f: u8, h: u64, q: Asked) -> Code
     let width = q.width;
     let op1 = q.op1;
     general(f, h, width, op1)
+}
+
+// Both for rows that are not document 01's, of any byte and nibble: f tells its pair.
+pub fn unary_of(f: u8, h: u8, q: Asked) -> Code
+    ensures { λ r. ⌜ r ≡ coded (choice.unary (f / 2 * 2) (h % 16) q) ⌝ }
+{
+    unary(f / 2 * 2, (h % 16) as u64, q)
+}
+
+pub fn binary_of(f: u8, h: u8, q: Asked) -> Code
+    ensures { λ r. ⌜ r ≡ coded (choice.binary (f / 2 * 2) (h % 16) q) ⌝ }
+{
+    binary(f / 2 * 2, (h % 16) as u64, q)
 }
 
 // Operands 0 and 1 are G(h) and G(n).

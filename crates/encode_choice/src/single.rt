@@ -14,7 +14,7 @@ use crate::shapes;
 use record::Operand;
 use record::fields;
 
-pub(crate) fn fixed(a: u8, b: u64) -> Code
+pub fn fixed(a: u8, b: u64) -> Code
     ensures { λ r. ⌜ r ≡ coded (code a b) ⌝ }
 {
     Code {
@@ -60,13 +60,12 @@ pub(crate) fn list(a: u8, q: Asked) -> Code
     fixed(a, q.number as u64)
 }
 
-// JMPI and JSRI, from 0 or 10 on.
-pub(crate) fn jump(b: u64, q: Asked) -> Code
-    requires { ⌜ b ≤ 0x10 ⌝ }
+// JMPI and JSRI, from 0 or 10 on; by the manual words from 20 or 30 on.
+pub fn jump(b: u8, q: Asked) -> Code
     ensures { λ r. ⌜ r ≡ coded (choice.jump b q) ⌝ }
 {
     let op0 = q.op0;
-    fixed(0x7D, b + (name_sets::code_of(op0) as u64))
+    fixed(0x7D, (b as u64) + (name_sets::code_of(op0) as u64))
 }
 
 pub(crate) fn ldc(q: Asked) -> Code

@@ -11,15 +11,15 @@ use lib.Dec.{leb}
 use borrow.Author.Tests.{leb-true}
 use Rattle.laws.specs.Choice.{pick}
 use Rattle.record.specs.declared.Record.{Record}
-use Rattle.rows.specs.Groups.{document01}
+use Rattle.rows.specs.Row.{Table}
 use Rattle.encode_rules.specs.Says.{Found, bytes, none}
 use Rattle.encode_rules.specs.Written.{Left, outcome, written, Encodes}
 use Rattle.encode_rules.proofs.Optimal.{unique}
 
 -- the number, the length and every byte together: no two answers are right, and each is written in one way
-pub encodes-once : (r : Record) (buf : List ℕ) (place : ℕ) (x y : Left) → Encodes r buf place x → Encodes r buf place y → x ≡ y
-encodes-once r buf place x y p q =
-    p .leaves ∙ ap (λ found. written found buf place) (unique document01 r (p .found) (q .found) (p .right) (q .right)) ∙ sym (q .leaves)
+pub encodes-once : (t : Table) (r : Record) (buf : List ℕ) (place : ℕ) (x y : Left) → Encodes t r buf place x → Encodes t r buf place y → x ≡ y
+encodes-once t r buf place x y p q =
+    p .leaves ∙ ap (λ found. written found buf place) (unique t r (p .found) (q .found) (p .right) (q .right)) ∙ sym (q .leaves)
 
 -- before the place, from the last byte written on, and as a whole
 pub record Kept (bs : List ℕ) (place : ℕ) (x : Left) : Type 0 where

@@ -6,7 +6,7 @@ use lib.ListN.{length, take, drop}
 use lib.Dec.{leb}
 use Rattle.laws.specs.Choice.{pick}
 use Rattle.record.specs.declared.Record.{Record}
-use Rattle.rows.specs.Groups.{document01}
+use Rattle.rows.specs.Row.{Table}
 use Rattle.encode_rules.specs.Says.{Found, bytes, none, Right}
 
 -- the number, the length, and each byte of the buffer
@@ -24,8 +24,8 @@ written none bs place = outcome 5 0 bs
 written (bytes xs) bs place =
     pick (leb (place + length xs) (length bs)) (outcome 0 (length xs) (take place bs ++ (xs ++ drop (place + length xs) bs))) (outcome 6 0 bs)
 
--- a record encoded into a buffer from a place on: what is found is right by document 01's rows, and is what is written
-pub record Encodes (r : Record) (buf : List ℕ) (place : ℕ) (out : Left) : Type 0 where
+-- a record encoded by a table into a buffer from a place on: what is found is right by the table's rows, and is what is written
+pub record Encodes (t : Table) (r : Record) (buf : List ℕ) (place : ℕ) (out : Left) : Type 0 where
   pub found : Found
-  pub right : Right document01 r found
+  pub right : Right t r found
   pub leaves : out ≡ written found buf place

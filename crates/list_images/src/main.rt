@@ -1,5 +1,5 @@
-// Lists several images from standard input. Before each stand a byte for its rule, 0 goes on and any other stops, and two that say how
-// many bytes follow, the higher first. The gate runs it on stored examples.
+// Lists several images from standard input. Before each stand a byte that says how, and two that say how many bytes follow, the higher
+// first. An odd byte stops at a refused place; from 2 on it is by the manual. The gate runs it on stored examples.
 ghost use Prim.Native.Nat.{_<_};
 use libc::STDIN_FILENO;
 use sweep::Rule;
@@ -11,7 +11,7 @@ fn wide(b: u8) -> usize
 }
 
 fn rule_of(b: u8) -> Rule {
-    if b == 0 {
+    if b % 2 == 0 {
         return Rule::GoOn;
     }
     Rule::Stop
@@ -27,7 +27,7 @@ fn list_all(text: &[u8]) {
             return;
         }
         let end = start + size;
-        listing::list(rule_of(text[at]), &text[start..end]);
+        listing::list(2 <= text[at], rule_of(text[at]), &text[start..end]);
         at = end;
     }
 }

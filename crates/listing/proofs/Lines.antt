@@ -8,12 +8,13 @@ use native.Mathlib.Numerals.{add-one}
 use lib.ListN.{length, drop, set, length-append, length-drop}
 use lib.Seq.{append-snoc, drop-cons, set-append-seam}
 use borrow.Author.Tests.{le-leb}
-use Rattle.rows.specs.Run.{decodeRows}
+use Rattle.rows.specs.Row.{Table}
+use Rattle.rows.specs.Run.{decodeBy}
 use Rattle.sweep.specs.declared.Rule.{Rule}
 use Rattle.sweep.specs.declared.step.Step.{Step}
 use Rattle.sweep.specs.declared.step.Step.the-variants.{End, Accepted, Refused}
 use Rattle.sweep.specs.Walk.{stepAt, Onward, onward, visit, walk}
-use Rattle.sweep.proofs.Walk.{turned, by-rows}
+use Rattle.sweep.proofs.Walk.{turned, by-table}
 use Rattle.line.specs.declared.Written.{Written}
 use Rattle.laws.specs.Over.{over}
 use Rattle.line.specs.Left.{left, Writes}
@@ -53,6 +54,6 @@ module _ (xs bs : List ℕ) (h : length xs < length bs) {w : Written} {ys : List
       ∙ sym (append-snoc xs 10 (drop (suc (length xs)) bs)) ∙ ap (λ k. (xs ++ (10 ∷ [])) ++ drop k bs) (sym n)
 
 -- what is listed from a place on: the line of the step there, and what is listed from where it leads
-pub from-here : (rule : Rule) (bs : List ℕ) (p : ℕ) {s : Step} {o : Onward} → s ≡ stepAt decodeRows bs p → onward rule p s ≡ o
-    → listed rule bs p ≡ textOf (visit p s o (walk decodeRows rule bs))
-from-here rule bs p {s} {o} e leads = ap textOf (turned by-rows bs rule p e ∙ ap (λ w. visit p s w (walk decodeRows rule bs)) leads)
+pub from-here : (t : Table) (rule : Rule) (bs : List ℕ) (p : ℕ) {s : Step} {o : Onward} → s ≡ stepAt (decodeBy t) bs p → onward rule p s ≡ o
+    → listed t rule bs p ≡ textOf (visit p s o (walk (decodeBy t) rule bs))
+from-here t rule bs p {s} {o} e leads = ap textOf (turned (by-table t) bs rule p e ∙ ap (λ w. visit p s w (walk (decodeBy t) rule bs)) leads)

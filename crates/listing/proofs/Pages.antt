@@ -11,6 +11,7 @@ use denote.Enum.Declared.{tagOf}
 use borrow.Rule.Slice.PartMut.{putMid}
 use Rattle.laws.specs.Over.{over}
 use Rattle.laws.proofs.Over.{put-taken, written-part}
+use Rattle.rows.specs.Row.{Table}
 use Rattle.sweep.specs.declared.Rule.{Rule}
 use Rattle.sweep.specs.Walk.{Onward, stop, on}
 use Rattle.listing.specs.declared.page.Next.{Next}
@@ -44,10 +45,10 @@ module _ (at : ℕ) (l xs : List ℕ) {n : ℕ} {ys : List ℕ} (h : at + length
   pub line-last : {here whole : List ℕ} → here ≡ xs → take at l ++ here ≡ whole → take (at + n) (putMid at (length l - at) l ys) ++ [] ≡ whole
   line-last e all = line-more [] (e ∙ sym (append-nil xs)) all
 
-whole : {rule : Rule} {bs : List ℕ} {next : Next} {text : List ℕ} → Paged rule bs next text → text ≡ toList rule bs next
+whole : {t : Table} {rule : Rule} {bs : List ℕ} {next : Next} {text : List ℕ} → Paged t rule bs next text → text ≡ toList t rule bs next
 whole none = refl
 whole (more {r = r} {out = out} filled rest) = ap (λ z. take (r .length) out ++ z) (whole rest) ∙ filled .same
 
 -- from where the listing begins, pages of any size are the listing
-pub one-after-the-other : {rule : Rule} {bs : List ℕ} {first : Next} {text : List ℕ} → toList rule bs first ≡ listing rule bs → Paged rule bs first text → text ≡ listing rule bs
+pub one-after-the-other : {t : Table} {rule : Rule} {bs : List ℕ} {first : Next} {text : List ℕ} → toList t rule bs first ≡ listing t rule bs → Paged t rule bs first text → text ≡ listing t rule bs
 one-after-the-other begun pages = whole pages ∙ begun

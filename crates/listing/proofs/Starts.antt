@@ -7,30 +7,31 @@ use mathlib.Core.List.{List, _++_, append-assoc}
 use lib.ListN.{length, drop}
 use lib.Seq.{take-at}
 use borrow.Author.Tests.{le-ltb}
-use Rattle.rows.specs.Run.{decodeRows}
+use Rattle.rows.specs.Row.{Table}
+use Rattle.rows.specs.Run.{decodeBy}
 use Rattle.sweep.specs.declared.Rule.{Rule}
 use Rattle.sweep.specs.declared.Rule.the-variants.{Stop}
 use Rattle.sweep.specs.Walk.{walk}
 use Rattle.sweep.specs.Sweep.{isAccepted, places, lastPlace, whole}
 use Rattle.sweep.specs.Visits.{passed}
-use Rattle.sweep.proofs.Walk.{along, by-rows}
+use Rattle.sweep.proofs.Walk.{along, by-table}
 use Rattle.sweep.proofs.Rules.{passes-starts}
 use Rattle.sweep.proofs.Answers.{walked}
 use Rattle.listing.specs.Listing.{lineAt, textOf, listed, listing}
 use Rattle.listing.specs.steps.Starts.{lineOn, linesAt, shownAs}
 
-pub shows-every-place : (rule : Rule) (bs : List ℕ) (p : ℕ) → let w = walk decodeRows rule bs p in listed rule bs p ≡ linesAt bs (passed w) ++ lineOn bs (lastPlace w)
-shows-every-place rule bs =
-    along by-rows bs rule (λ p w. textOf w ≡ linesAt bs (passed w) ++ lineOn bs (lastPlace w))
+pub shows-every-place : (t : Table) (rule : Rule) (bs : List ℕ) (p : ℕ) → let w = walk (decodeBy t) rule bs p in listed t rule bs p ≡ linesAt t bs (passed w) ++ lineOn t bs (lastPlace w)
+shows-every-place t rule bs =
+    along (by-table t) bs rule (λ p w. textOf w ≡ linesAt t bs (passed w) ++ lineOn t bs (lastPlace w))
     (λ p s e o. ap (lineAt p) e)
-    (λ p q s w u e o h. ap (λ z. lineAt p s ++ z) h ∙ ap (λ z. lineAt p z ++ (linesAt bs (passed w) ++ lineOn bs (lastPlace w))) e
-    ∙ sym (append-assoc (lineOn bs p) (linesAt bs (passed w)) (lineOn bs (lastPlace w))))
+    (λ p q s w u e o h. ap (λ z. lineAt p s ++ z) h ∙ ap (λ z. lineAt p z ++ (linesAt t bs (passed w) ++ lineOn t bs (lastPlace w))) e
+    ∙ sym (append-assoc (lineOn t bs p) (linesAt t bs (passed w)) (lineOn t bs (lastPlace w))))
 
 -- the stopping listing, with room for the starts
-pub shows-the-sweep : (bs ss : List ℕ) → length bs ≤ 4096 → length bs ≤ length ss → listing Stop bs ≡ shownAs bs (whole Stop bs ss)
+pub shows-the-sweep : (t : Table) (bs ss : List ℕ) → length bs ≤ 4096 → length bs ≤ length ss → listing t Stop bs ≡ shownAs t bs (whole t Stop bs ss)
 unfolding listing
-shows-the-sweep bs ss h g =
-    let w = walk decodeRows Stop bs 0 in
+shows-the-sweep t bs ss h g =
+    let w = walk (decodeBy t) Stop bs 0 in
     let starts = places isAccepted w in
-    rw (le-ltb _ _ h, walked bs ss h g Stop)
-    (shows-every-place Stop bs 0 ∙ ap (λ ps. linesAt bs ps ++ lineOn bs (lastPlace w)) (passes-starts by-rows bs 0 ∙ sym (take-at starts (drop (length starts) ss) (length starts) refl)))
+    rw (le-ltb _ _ h, walked t bs ss h g Stop)
+    (shows-every-place t Stop bs 0 ∙ ap (λ ps. linesAt t bs ps ++ lineOn t bs (lastPlace w)) (passes-starts (by-table t) bs 0 ∙ sym (take-at starts (drop (length starts) ss) (length starts) refl)))

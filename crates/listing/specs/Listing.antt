@@ -1,10 +1,11 @@
--- Document 01, "Bench lines", and request A1: the whole text of an image's listing by a rule, a line for each place that the sweep visits.
+-- Document 01, "Bench lines", and request A1: the whole text of an image's listing by a table of rows and a rule, a line for each place that the sweep visits.
 use Prim.Native.Nat.{ℕ}
 use mathlib.Core.List.{List, _++_}
 use lib.ListN.{length}
 use lib.Dec.{ltb}
 use Rattle.laws.specs.Choice.{pick}
-use Rattle.rows.specs.Run.{decodeRows}
+use Rattle.rows.specs.Row.{Table}
+use Rattle.rows.specs.Run.{decodeBy}
 use Rattle.sweep.specs.declared.Rule.{Rule}
 use Rattle.sweep.specs.declared.step.Step.{Step}
 use Rattle.sweep.specs.declared.step.Step.the-variants.{End, Accepted, Refused}
@@ -28,13 +29,13 @@ textOf (last p s) = lineAt p s
 textOf (more p s w) = lineAt p s ++ textOf w
 
 -- from place p on
-abbrev pub listed : Rule → List ℕ → ℕ → List ℕ
-listed rule bs p = textOf (walk decodeRows rule bs p)
+abbrev pub listed : Table → Rule → List ℕ → ℕ → List ℕ
+listed t rule bs p = textOf (walk (decodeBy t) rule bs p)
 
 -- the whole listing of a refused image
 abbrev pub tooLongText : List ℕ
 tooLongText = spelled "REFUSED 7\n"
 
 -- an image of more than 4,096 bytes is refused
-unfoldable pub listing : Rule → List ℕ → List ℕ
-listing rule bs = pick (ltb 4096 (length bs)) tooLongText (listed rule bs 0)
+unfoldable pub listing : Table → Rule → List ℕ → List ℕ
+listing t rule bs = pick (ltb 4096 (length bs)) tooLongText (listed t rule bs 0)

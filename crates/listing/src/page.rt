@@ -1,9 +1,11 @@
 // A listing in pieces: as many whole lines as fit into a buffer.
 ghost use mathlib.Core.Path.{_≡_};
 ghost use mathlib.Core.List.{List};
+ghost use mathlib.Core.Bool.{Bool};
 ghost use Prim.Native.Nat.{ℕ, _+_, _^_, _≤_, _<_};
 ghost use lib.ListN.{length};
 ghost use Rattle.laws.specs.Over.{over};
+ghost use Rattle.by_manual.specs.Table.{tableBy};
 ghost use Rattle.line.specs.Left.{Writes};
 ghost use Rattle.listing.specs.Listing.{stepText, lineAt, listing};
 ghost use Rattle.listing.specs.steps.Page.{toList, nextOf, isMore, Filled};
@@ -32,7 +34,7 @@ pub struct Page {
 
 // An image of more than 4,096 bytes is refused.
 pub fn first(image: &[u8]) -> Next
-    ensures { λ r. ⌜ ((rule : Rule) → toList rule (now (image .entry)) r ≡ listing rule (now (image .entry))) ⌝ }
+    ensures { λ r. ⌜ ((manual : Bool) (rule : Rule) → toList (tableBy manual) rule (now (image .entry)) r ≡ listing (tableBy manual) rule (now (image .entry))) ⌝ }
 {
     if 4096 < image.len() {
         return Next::TooLong;
@@ -88,13 +90,13 @@ fn behind(rule: Rule, place: usize, here: Step) -> Next
 }
 
 // What is listed of an image from a place on, as far as whole lines fit.
-fn fill_lines(rule: Rule, image: &[u8], from: usize, out: &mut [u8]) -> Page
-    ensures { λ r. ⌜ Filled rule (now (image .entry)) (Next.From from) (length (now (out .entry))) r (now (out .exit)) ⌝ }
+fn fill_lines(manual: bool, rule: Rule, image: &[u8], from: usize, out: &mut [u8]) -> Page
+    ensures { λ r. ⌜ Filled (tableBy manual) rule (now (image .entry)) (Next.From from) (length (now (out .entry))) r (now (out .exit)) ⌝ }
 {
     let mut at: usize = 0;
     let mut place = from;
     while ROOM <= out.len() - at {
-        let here = step::step_at(image, place);
+        let here = step::step_at(manual, image, place);
         at = at + put_line(place, here, &mut out[at..]);
         match behind(rule, place, here) {
             Next::From(q) => {
@@ -115,7 +117,7 @@ fn fill_lines(rule: Rule, image: &[u8], from: usize, out: &mut [u8]) -> Page
 }
 
 fn fill_too_long(out: &mut [u8]) -> Page
-    ensures { λ r. ⌜ ((rule : Rule) (image : List ℕ) → Filled rule image Next.TooLong (length (now (out .entry))) r (now (out .exit))) ⌝ }
+    ensures { λ r. ⌜ ((manual : Bool) (rule : Rule) (image : List ℕ) → Filled (tableBy manual) rule image Next.TooLong (length (now (out .entry))) r (now (out .exit))) ⌝ }
 {
     if out.len() < ROOM {
         return Page {
@@ -130,12 +132,12 @@ fn fill_too_long(out: &mut [u8]) -> Page
 }
 
 // The next page of a listing.
-pub fn fill(rule: Rule, image: &[u8], next: Next, out: &mut [u8]) -> Page
-    ensures { λ r. ⌜ Filled rule (now (image .entry)) next (length (now (out .entry))) r (now (out .exit)) ⌝ }
+pub fn fill(manual: bool, rule: Rule, image: &[u8], next: Next, out: &mut [u8]) -> Page
+    ensures { λ r. ⌜ Filled (tableBy manual) rule (now (image .entry)) next (length (now (out .entry))) r (now (out .exit)) ⌝ }
 {
     match next {
         Next::TooLong => fill_too_long(out),
-        Next::From(place) => fill_lines(rule, image, place, out),
+        Next::From(place) => fill_lines(manual, rule, image, place, out),
         Next::Nothing => Page {
             length: 0,
             next: Next::Nothing,

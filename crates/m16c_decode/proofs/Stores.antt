@@ -1,21 +1,15 @@
--- Stores over the first entries, one behind the other, and the size of what they store.
+-- Stores over the first entries, one behind the other.
 -- Assumes nothing.
-use Prim.Native.Nat.{ℕ, _+_, _≤_, _<_}
-use mathlib.Core.Path.{_≡_, sym, ap, _∙_, subst}
+use Prim.Native.Nat.{ℕ, _≤_}
+use mathlib.Core.Path.{_≡_, sym, ap, _∙_}
 use mathlib.Core.List.{List, [], _∷_, _++_, append-assoc}
 use native.Mathlib.Omega.{arith}
-use lib.ListN.{length, getD, take, drop, set, length-drop, length-set}
-use lib.Seq.{sets-eq, getD-drop, drop-drop, drop-set-add}
+use lib.ListN.{length, take, drop, set, length-drop, length-set}
+use lib.Seq.{sets-eq, drop-drop, drop-set-add}
 use Rattle.laws.specs.Over.{put}
 use Rattle.laws.proofs.Over.{put-whole}
 use Rattle.record.specs.declared.Answer.{Answer}
-use Rattle.record.specs.declared.Operand.the-variants.{Nothing}
 use Rattle.record.specs.declared.Parts.{Parts}
-use Rattle.rows.specs.Groups.{document01}
-use Rattle.rows.specs.Run.{decodeRows}
-use Rattle.rows.proofs.Taken.{counted}
-use Rattle.rows.proofs.Length.{seven}
-use Rattle.rows.proofs.Third.{no-third}
 use Rattle.m16c_decode.specs.Decoded.{entries, partsFrom, registersFrom, partNumbers, numbersOf}
 
 -- the six of the parts
@@ -52,13 +46,3 @@ stored l {o′ = o′} {z′ = z′} {w′ = w′} {p′ = p′} {q′ = q′} {
 pub as-long : (a : Answer) (l : List ℕ) → entries ≤ length l → length (numbersOf a ++ drop entries l) ≡ length l
 unfolding numbersOf
 as-long a l h = omega (arith, length-drop entries l)
-
--- a second byte is a byte, wherever decoding begins
-pub small : (image : List ℕ) (at : ℕ) → ((k : ℕ) → getD image k 0 < 256) → decodeRows (drop at image) .taken ≤ 7
-small image at h = seven (drop at image) (subst (λ x. x < 256) (sym (getD-drop at image 1 0)) (h (at + 1)))
-
-pub none-third : (image : List ℕ) (at : ℕ) → decodeRows (drop at image) .inst .op2 ≡ Nothing
-none-third image at = no-third document01 (drop at image)
-
-pub short : (image : List ℕ) (at : ℕ) → decodeRows (drop at image) .inst .length ≤ decodeRows (drop at image) .taken
-short image at = counted document01 (drop at image) .short

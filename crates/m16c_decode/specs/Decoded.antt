@@ -1,4 +1,4 @@
--- What m16c_decode returns and leaves in the list passed in.
+-- What m16c_decode and m16c_decode_manual return, and leave in the list passed in, by a table of rows.
 use Prim.Native.Nat.{ℕ}
 use mathlib.Core.Path.{_≡_}
 use mathlib.Core.Bool.{Bool, true, false}
@@ -9,7 +9,8 @@ use Rattle.laws.specs.Choice.{pick}
 use Rattle.record.specs.declared.Answer.{Answer}
 use Rattle.record.specs.declared.Parts.{Parts}
 use Rattle.record.specs.Numbers.{opcodeNo, sizeNo, widthNo, operandNo}
-use Rattle.rows.specs.Run.{decodeRows}
+use Rattle.rows.specs.Row.{Table}
+use Rattle.rows.specs.Run.{decodeBy}
 
 abbrev pub flagNo : Bool → ℕ
 flagNo true = 1
@@ -60,12 +61,12 @@ pub record Delivered : Type 0 where
   pub out : List ℕ
 
 -- 6 and nothing touched where the list has fewer entries; else the numbers stand over its first ones
-unfoldable pub decoded : List ℕ → ℕ → List ℕ → Delivered
-decoded image at out =
+unfoldable pub decoded : Table → List ℕ → ℕ → List ℕ → Delivered
+decoded t image at out =
     pick (ltb (length out) entries) (record { no = 6; out = out })
-    (record { no = decodeRows (drop at image) .refusal; out = numbersOf (decodeRows (drop at image)) ++ drop entries out })
+    (record { no = decodeBy t (drop at image) .refusal; out = numbersOf (decodeBy t (drop at image)) ++ drop entries out })
 
 -- the promise: the number returned, and every entry of the list as it is left
-pub record Decodes (image : List ℕ) (at : ℕ) (out : List ℕ) (r : ℕ) (after : List ℕ) : Type 0 where
-  pub returned : r ≡ decoded image at out .no
-  pub kept : after ≡ decoded image at out .out
+pub record Decodes (t : Table) (image : List ℕ) (at : ℕ) (out : List ℕ) (r : ℕ) (after : List ℕ) : Type 0 where
+  pub returned : r ≡ decoded t image at out .no
+  pub kept : after ≡ decoded t image at out .out

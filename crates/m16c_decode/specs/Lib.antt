@@ -1,1 +1,2 @@
 pub mod Decoded
+pub mod steps

@@ -1,84 +1,130 @@
-// The decoder for C, a crate of its own: the functions below are inlined into it only where they have one caller.
-ghost use mathlib.Core.Path.{_≡_};
-ghost use mathlib.Core.List.{_++_};
-ghost use Prim.Native.Nat.{_≤_};
-ghost use lib.ListN.{length, drop};
-ghost use Rattle.laws.specs.Over.{put};
-ghost use Rattle.record.specs.declared.Operand.the-variants.{Nothing};
-ghost use Rattle.m16c_decode.specs.Decoded.{flagNo, partNumbers, partsFrom, numbersOf, entries, Decodes};
-use record::Answer;
-use record::Operand;
-use record::Parts;
-use record::numbers;
+// The decoders for C, a crate of their own. Both choose the group by the first byte, and the group's function ends them: two functions
+// that only call share all of their code that is big, and cost less than one that has the groups inside.
+mod deliver; // an answer as numbers
+mod groups; // each group's answer, delivered
+
+ghost use Rattle.rows.specs.Groups.{document01};
+ghost use Rattle.by_manual.specs.Table.{byManual, tableBy};
+ghost use Rattle.m16c_decode.specs.Decoded.{Decodes};
+use decode_changed::asked;
 use record::refusal;
-
-fn flag_number(x: bool) -> u32
-    ensures { λ r. ⌜ r ≡ flagNo x ⌝ }
-{
-    if x { 1 } else { 0 }
-}
-
-// So many numbers are an answer.
-const ENTRIES: usize = 20;
-
-// Where the numbers of a record stand, over the entries behind the first thirteen.
-fn deliver_parts(parts: Parts, out: &mut [u32])
-    requires { ⌜ entries ≤ length (now out) ⌝ }
-    ensures { λ r. ⌜ now (out .exit) ≡ put partsFrom (partNumbers parts) (now (out .entry)) ⌝ }
-{
-    let first_offset = parts.first.offset;
-    let first_width = parts.first.width;
-    let dispabs_offset = parts.dispabs.offset;
-    let dispabs_width = parts.dispabs.width;
-    let imm_wide_offset = parts.imm_wide.offset;
-    let imm_wide_width = parts.imm_wide.width;
-    out[13] = first_offset as u32;
-    out[14] = first_width as u32;
-    out[15] = dispabs_offset as u32;
-    out[16] = dispabs_width as u32;
-    out[17] = imm_wide_offset as u32;
-    out[18] = imm_wide_width as u32;
-}
-
-// An answer's numbers over the first entries.
-fn deliver(a: Answer, out: &mut [u32])
-    requires { ⌜ (entries ≤ length (now out)) × (a .taken ≤ 7) × (a .inst .length ≤ 7) × (a .inst .op2 ≡ Nothing) ⌝ }
-    ensures { λ r. ⌜ now (out .exit) ≡ numbersOf a ++ drop entries (now (out .entry)) ⌝ }
-{
-    let inst = a.inst;
-    let opcode = inst.opcode;
-    let size = inst.size;
-    let width = inst.width;
-    let op0 = inst.op0;
-    let op1 = inst.op1;
-    out[19] = inst.registers as u32;
-    out[0] = a.taken as u32;
-    out[1] = numbers::opcode_number(opcode);
-    out[2] = numbers::size_number(size);
-    out[3] = numbers::width_number(width);
-    out[4] = numbers::operand_number(op0);
-    out[5] = numbers::operand_number(op1);
-    out[6] = numbers::operand_number(Operand::Nothing); // no row has a third operand
-    out[7] = inst.imm_wide;
-    out[8] = inst.dispabs as u32;
-    out[9] = inst.first as u32;
-    out[10] = inst.length as u32;
-    out[11] = flag_number(inst.marked);
-    out[12] = flag_number(inst.dropped);
-    deliver_parts(inst.parts, out);
-}
 
 // Decodes at a place of an image. Returns the refusal, 0 for none, and fills twenty entries: taken, opcode, size, width, three
 // operands, imm_wide, dispabs, first, length, marked, dropped, then offset and width of the bytes that first, dispabs and imm_wide were
 // read from, and how many registers a list names. With fewer than twenty entries it returns 6 and touches none.
 #[no_mangle]
 pub extern "C" fn m16c_decode(image: &[u8], at: usize, out: &mut [u32]) -> u32
-    ensures { λ r. ⌜ Decodes (now (image .entry)) at (now (out .entry)) r (now (out .exit)) ⌝ }
+    ensures { λ r. ⌜ Decodes document01 (now (image .entry)) at (now (out .entry)) r (now (out .exit)) ⌝ }
 {
-    if out.len() < ENTRIES {
+    if out.len() < deliver::ENTRIES {
         return refusal::TOO_LITTLE_ROOM as u32;
     }
-    let a = decode::decode(image, at);
-    deliver(a, out);
-    a.refusal as u32
+    if image.len() < at {
+        return groups::fill_few(image, at, out);
+    }
+    if image.len() - at < 2 {
+        return groups::fill_few(image, at, out);
+    }
+    let bs = &image[at..];
+    let a = bs[0];
+    let b = bs[1];
+    match a {
+        0x74 | 0x75 => groups::fill_74(bs, a % 2 == 0, out, b),
+        0x76 | 0x77 => groups::fill_76(bs, a % 2 == 0, out, b),
+        0x78 | 0x79 => groups::fill_78(bs, a % 2 == 0, out, b),
+        0x7A => groups::fill_7A(bs, b, out),
+        0x7B => groups::fill_7B(bs, b, out),
+        0x7C => groups::fill_7C(bs, b, out),
+        0x7D => groups::fill_7D(bs, b, out),
+        0x7E => groups::fill_7E(bs, b, out),
+        0xEB => groups::fill_EB(bs, b, out),
+        _ => {
+            if 0xC1 < a {
+                return groups::fill_list(a, b, out);
+            }
+            if decode_72::is_two(a) {
+                return groups::fill_two(bs, a, out, b);
+            }
+            groups::fill_outside(out)
+        }
+    }
+}
+
+// Decodes as m16c_decode does, by the manual. The record does not say so: encode it by m16c_encode_manual.
+#[no_mangle]
+pub extern "C" fn m16c_decode_manual(image: &[u8], at: usize, out: &mut [u32]) -> u32
+    ensures { λ r. ⌜ Decodes byManual (now (image .entry)) at (now (out .entry)) r (now (out .exit)) ⌝ }
+{
+    if out.len() < deliver::ENTRIES {
+        return refusal::TOO_LITTLE_ROOM as u32;
+    }
+    if image.len() < at {
+        return groups::fill_few(image, at, out);
+    }
+    if image.len() - at < 2 {
+        return groups::fill_few(image, at, out);
+    }
+    let bs = &image[at..];
+    let a = bs[0];
+    let b = bs[1];
+    match a {
+        0x74 | 0x75 => {
+            if asked::in_74(b) {
+                return groups::fill_changed(bs, a, out, b);
+            }
+            groups::fill_74(bs, a % 2 == 0, out, b)
+        }
+        0x76 | 0x77 => {
+            if asked::in_76(b) {
+                return groups::fill_changed(bs, a, out, b);
+            }
+            groups::fill_76(bs, a % 2 == 0, out, b)
+        }
+        0x78 | 0x79 => groups::fill_78(bs, a % 2 == 0, out, b),
+        0x7A => {
+            if asked::in_7A(b) {
+                return groups::fill_changed(bs, a, out, b);
+            }
+            groups::fill_7A(bs, b, out)
+        }
+        0x7B => groups::fill_7B(bs, b, out),
+        0x7C => {
+            if asked::in_7C(b) {
+                return groups::fill_changed(bs, a, out, b);
+            }
+            groups::fill_7C(bs, b, out)
+        }
+        0x7D => {
+            if asked::in_7D(b) {
+                return groups::fill_changed(bs, a, out, b);
+            }
+            groups::fill_7D(bs, b, out)
+        }
+        0x7E => groups::fill_7E(bs, b, out),
+        0xEB => {
+            if asked::in_EB(b) {
+                return groups::fill_changed(bs, a, out, b);
+            }
+            groups::fill_EB(bs, b, out)
+        }
+        _ => {
+            if 0xC1 < a {
+                return groups::fill_list(a, b, out);
+            }
+            if decode_72::is_two(a) {
+                return groups::fill_two(bs, a, out, b);
+            }
+            groups::fill_outside(out)
+        }
+    }
+}
+
+// For the small archive, which has the decoder once: either reading.
+pub fn decode_into(manual: bool, image: &[u8], at: usize, out: &mut [u32]) -> u32
+    ensures { λ r. ⌜ Decodes (tableBy manual) (now (image .entry)) at (now (out .entry)) r (now (out .exit)) ⌝ }
+{
+    if out.len() < deliver::ENTRIES {
+        return refusal::TOO_LITTLE_ROOM as u32;
+    }
+    deliver::fill(decode::decode_by(manual, image, at), out)
 }

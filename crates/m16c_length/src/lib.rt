@@ -23,9 +23,9 @@ fn refuse(e: u8, length: &mut usize) -> u32
     e as u32
 }
 
-// The length that every accepted instruction has that begins with the first two bytes; more bytes do not count. Returns 0 and leaves the
-// length; or a refusal and 0: 4 for a first byte outside, then 1 for fewer than two bytes, else 2 or 3 where no bytes behind these two make
-// an instruction.
+// The length that every instruction has that m16c_decode accepts and that begins with the first two bytes; more bytes do not count, and by
+// the manual some lengths are others. Returns 0 and leaves the length; or a refusal and 0: 4 for a first byte outside, then 1 for fewer than
+// two bytes, else 2 or 3 where no bytes behind these two make an instruction.
 #[no_mangle]
 pub extern "C" fn m16c_length(bytes: &[u8], length: &mut usize) -> u32
     ensures { λ r. ⌜ LengthOf document01 (now (bytes .entry)) r (now (length .exit)) ⌝ }

@@ -1,4 +1,4 @@
--- Where m16c_line answers 0, 6 or decoding's refusal.
+-- Where a line's function answers 0, 6 or decoding's refusal.
 -- Assumes nothing.
 use Prim.Native.Nat.{ℕ, _≤_, _<_}
 use mathlib.Core.Path.{_≡_, refl, ap, _∙_}
@@ -9,8 +9,8 @@ use native.Mathlib.Omega.{arith}
 use lib.ListN.{length, drop}
 use lib.Dec.{leb, eqb}
 use borrow.Author.Tests.{eq-eqb, ne-eqb, eqb-true, eqb-false, leb-true, leb-false}
-use Rattle.rows.specs.Groups.{document01}
-use Rattle.rows.specs.Run.{decodeRows}
+use Rattle.rows.specs.Row.{Table}
+use Rattle.rows.specs.Run.{decodeBy}
 use Rattle.rows.proofs.Refusals.{at-most-four}
 use Rattle.line.specs.Line.{lineOf}
 use Rattle.line.specs.Left.{left}
@@ -44,21 +44,21 @@ module _ {refusal n room r : ℕ} where
   roomy-by (writing z h e) l = omega arith
   roomy-by (lacking z h e) l = omega arith
 
-module _ (image : List ℕ) (at : ℕ) (out : List ℕ) where
+module _ (t : Table) (image : List ℕ) (at : ℕ) (out : List ℕ) where
   abbrev refusal : ℕ
-  refusal = decodeRows (drop at image) .refusal
+  refusal = decodeBy t (drop at image) .refusal
 
   abbrev line : List ℕ
-  line = lineOf at (decodeRows (drop at image) .inst)
+  line = lineOf at (decodeBy t (drop at image) .inst)
 
   abbrev number : ℕ
-  number = lined image at out .written .refusal
+  number = lined t image at out .written .refusal
 
-  pub accepted : refusal ≡ 0 → lined image at out ≡ left line out
+  pub accepted : refusal ≡ 0 → lined t image at out ≡ left line out
   unfolding lined
   accepted z = rw (eq-eqb _ 0 z)
 
-  pub refused : refusal ≢ 0 → lined image at out ≡ untouched refusal out
+  pub refused : refusal ≢ 0 → lined t image at out ≡ untouched refusal out
   unfolding lined
   refused z = rw (ne-eqb _ 0 z)
 
@@ -67,7 +67,7 @@ module _ (image : List ℕ) (at : ℕ) (out : List ℕ) where
   numbered = by (eqb refusal 0) (leb (length line) (length out)) refl refl
     where
       by : (a b : Bool) → eqb refusal 0 ≡ a → leb (length line) (length out) ≡ b → Number refusal (length line) (length out) number
-      by false b e f = refusing (eqb-false _ 0 e) (at-most-four document01 (drop at image)) (ap (λ w. w .written .refusal) (refused (eqb-false _ 0 e)))
+      by false b e f = refusing (eqb-false _ 0 e) (at-most-four t (drop at image)) (ap (λ w. w .written .refusal) (refused (eqb-false _ 0 e)))
       by true true e f = writing (eqb-true _ 0 e) (leb-true _ _ f) (ap (λ w. w .written .refusal) (accepted (eqb-true _ 0 e)) ∙ rw f)
       by true false e f = lacking (eqb-true _ 0 e) (leb-false _ _ f) (ap (λ w. w .written .refusal) (accepted (eqb-true _ 0 e)) ∙ rw f)
 
@@ -89,7 +89,7 @@ module _ (image : List ℕ) (at : ℕ) (out : List ℕ) where
 
   -- with room for the longest line: decoding's refusal, so never 6
   pub roomy : 120 ≤ length out → number ≡ refusal
-  roomy h = roomy-by numbered (omega (arith, line-short at (decodeRows (drop at image) .inst)))
+  roomy h = roomy-by numbered (omega (arith, line-short at (decodeBy t (drop at image) .inst)))
 
   pub never-six : 120 ≤ length out → number ≢ 6
-  never-six h e = omega (arith, six-where .0 e .1, line-short at (decodeRows (drop at image) .inst))
+  never-six h e = omega (arith, six-where .0 e .1, line-short at (decodeBy t (drop at image) .inst))

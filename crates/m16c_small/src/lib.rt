@@ -1,9 +1,9 @@
 // The functions for C of the small archive: in one crate, and so in one object, where the decoder stands once. The sweep is not among
 // them: it keeps no record, and behind a decoder that makes one it takes over three times its instructions.
 ghost use Rattle.rows.specs.Groups.{document01};
+ghost use Rattle.m16c_decode.specs.Decoded.{Decodes};
 ghost use Rattle.encode_rules.specs.Written.{outcome};
 ghost use Rattle.lengths.specs.Length.{LengthOf};
-ghost use Rattle.m16c_decode.specs.Decoded.{Decodes};
 ghost use Rattle.m16c_encode.specs.Numbers.{EncodesNumbers};
 ghost use Rattle.m16c_line.specs.Lined.{Lines};
 ghost use Rattle.m16c_operand_number.specs.Told.{TellsNumber};
@@ -11,9 +11,9 @@ use record::Answer;
 
 #[no_mangle]
 pub extern "C" fn m16c_decode(image: &[u8], at: usize, out: &mut [u32]) -> u32
-    ensures { λ r. ⌜ Decodes (now (image .entry)) at (now (out .entry)) r (now (out .exit)) ⌝ }
+    ensures { λ r. ⌜ Decodes document01 (now (image .entry)) at (now (out .entry)) r (now (out .exit)) ⌝ }
 {
-    m16c_decode::m16c_decode(image, at, out)
+    m16c_decode::decode_into(false, image, at, out)
 }
 
 #[no_mangle]
@@ -23,14 +23,14 @@ pub extern "C" fn m16c_encode(
     place: usize,
     bytes_written: &mut usize,
 ) -> u32
-    ensures { λ r. ⌜ EncodesNumbers (now (numbers .entry)) (now (buf .entry)) place (outcome r (now («bytes_written» .exit)) (now (buf .exit))) ⌝ }
+    ensures { λ r. ⌜ EncodesNumbers document01 (now (numbers .entry)) (now (buf .entry)) place (outcome r (now («bytes_written» .exit)) (now (buf .exit))) ⌝ }
 {
     m16c_encode::m16c_encode(numbers, buf, place, bytes_written)
 }
 
 #[no_mangle]
 pub extern "C" fn m16c_line(image: &[u8], at: usize, out: &mut [u8], line_length: &mut usize) -> u32
-    ensures { λ r. ⌜ Lines (now (image .entry)) at (now (out .entry)) r (now («line_length» .exit)) (now (out .exit)) ⌝ }
+    ensures { λ r. ⌜ Lines document01 (now (image .entry)) at (now (out .entry)) r (now («line_length» .exit)) (now (out .exit)) ⌝ }
 {
     m16c_line::m16c_line(image, at, out, line_length)
 }

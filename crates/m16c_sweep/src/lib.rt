@@ -1,6 +1,7 @@
 // The sweeps for C, a crate of their own: both share one loop, and what stands below is inlined into it where it has one caller.
 ghost use mathlib.Core.Path.{_≡_};
 ghost use Rattle.m16c_sweep.specs.Parts.{sweptIn, SweepsInParts};
+ghost use Rattle.rows.specs.Groups.{document01};
 ghost use Rattle.sweep.specs.declared.Rule.{Rule};
 use sweep::Swept;
 
@@ -16,7 +17,7 @@ pub extern "C" fn m16c_sweep(
     refused: &mut usize,
     read: &mut usize,
 ) -> u32
-    ensures { λ r. ⌜ SweepsInParts Rule.GoOn (now (image .entry)) (now (starts .entry)) r (now (count .exit)) (now (place .exit)) (now (refused .exit)) (now (read .exit)) (now (starts .exit)) ⌝ }
+    ensures { λ r. ⌜ SweepsInParts document01 Rule.GoOn (now (image .entry)) (now (starts .entry)) r (now (count .exit)) (now (place .exit)) (now (refused .exit)) (now (read .exit)) (now (starts .exit)) ⌝ }
 {
     let swept = sweep::sweep(image, starts);
     in_parts(swept, count, place, refused, read)
@@ -34,13 +35,13 @@ pub extern "C" fn m16c_sweep_stopping(
     refused: &mut usize,
     read: &mut usize,
 ) -> u32
-    ensures { λ r. ⌜ SweepsInParts Rule.Stop (now (image .entry)) (now (starts .entry)) r (now (count .exit)) (now (place .exit)) (now (refused .exit)) (now (read .exit)) (now (starts .exit)) ⌝ }
+    ensures { λ r. ⌜ SweepsInParts document01 Rule.Stop (now (image .entry)) (now (starts .entry)) r (now (count .exit)) (now (place .exit)) (now (refused .exit)) (now (read .exit)) (now (starts .exit)) ⌝ }
 {
     let stopped = sweep::sweep_stopping(image, starts);
     in_parts(stopped, count, place, refused, read)
 }
 
-fn in_parts(
+pub fn in_parts(
     s: Swept,
     count: &mut usize,
     place: &mut usize,

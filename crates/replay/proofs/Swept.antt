@@ -5,6 +5,7 @@ use mathlib.Core.Path.{_≡_, sym, ap, subst, _∙_}
 use mathlib.Core.List.{List}
 use lib.ListN.{length, replicate}
 use lib.Seq.{length-take-le}
+use Rattle.rows.specs.Groups.{document01}
 use Rattle.sweep.specs.Sweep.{Sweeps}
 use Rattle.sweep.specs.declared.Rule.{Rule}
 use Rattle.sweep.specs.declared.Swept.{Swept}
@@ -15,13 +16,13 @@ use Rattle.replay.specs.Sweeping.{imageIn, sweptIn, startsIn, Begins, Ri
 begun : {n : ℕ} {entries these : List ℕ} → Begins n entries these → n ≡ length these
 begun {n} {entries} b = sym (length-take-le n entries (b .enough)) ∙ ap length (b .same)
 
-module _ (rule : Rule) (s : List ℕ) {r : Swept} {starts : List ℕ} (done : Sweeps rule (imageIn s) (replicate 16 0) r starts) where
+module _ (rule : Rule) (s : List ℕ) {r : Swept} {starts : List ℕ} (done : Sweeps document01 rule (imageIn s) (replicate 16 0) r starts) where
   pub right : r ≡ sweptIn rule s (r .count) → Begins (r .count) starts (startsIn s) → Right rule s
   right e b =
       let many = begun b in
       record {
         after = starts;
-        sweeps = subst (λ x. Sweeps rule (imageIn s) (replicate 16 0) x starts) (e ∙ ap (sweptIn rule s) many) done;
+        sweeps = subst (λ x. Sweeps document01 rule (imageIn s) (replicate 16 0) x starts) (e ∙ ap (sweptIn rule s) many) done;
         starts = subst (λ n. Begins n starts (startsIn s)) many b;
       }
 

@@ -5,6 +5,7 @@ use mathlib.Core.List.{List, [], _∷_, _++_}
 use lib.Dec.{eqb}
 use lib.ListN.{length, take, replicate}
 use Rattle.laws.specs.Choice.{pick}
+use Rattle.rows.specs.Groups.{document01}
 use Rattle.sweep.specs.Sweep.{Sweeps}
 use Rattle.sweep.specs.declared.Rule.{Rule}
 use Rattle.sweep.specs.declared.Rule.the-variants.{GoOn, Stop}
@@ -56,5 +57,5 @@ pub record Begins (n : ℕ) (entries these : List ℕ) : Type 0 where
 -- the sweep of the image, passed sixteen zeros, returns what the line says, and leaves starts that begin with those that it tells
 pub record Right (rule : Rule) (s : List ℕ) : Type 0 where
   pub after : List ℕ
-  pub sweeps : Sweeps rule (imageIn s) (replicate 16 0) (sweptIn rule s (length (startsIn s))) after
+  pub sweeps : Sweeps document01 rule (imageIn s) (replicate 16 0) (sweptIn rule s (length (startsIn s))) after
   pub starts : Begins (length (startsIn s)) after (startsIn s)

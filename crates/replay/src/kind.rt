@@ -1,11 +1,11 @@
-// What a line of the stored list holds: a record to encode, an image to sweep by a rule, a record with an operand to ask for, bytes whose
+// What a line of the stored list holds: a record to encode by a reading, an image to sweep by a rule, a record with an operand to ask for, bytes whose
 // numbers are to be placed, or bytes to decode.
 ghost use mathlib.Core.Path.{_≡_};
 ghost use Rattle.replay.specs.Line.{kindOf};
 use sweep::Rule;
 
 pub enum Kind {
-    Encodes,
+    Encodes(bool), // whether by the manual
     Sweeps(Rule),
     Asks,
     Places,
@@ -20,7 +20,7 @@ pub(crate) fn kind_of(line: &[u8]) -> Kind
         return Kind::Decodes;
     }
     if line[0] == b'E' {
-        return Kind::Encodes;
+        return Kind::Encodes(false);
     }
     if line[0] == b'S' {
         return Kind::Sweeps(Rule::Stop);
@@ -33,6 +33,9 @@ pub(crate) fn kind_of(line: &[u8]) -> Kind
     }
     if line[0] == b'P' {
         return Kind::Places;
+    }
+    if line[0] == b'M' {
+        return Kind::Encodes(true);
     }
     Kind::Decodes
 }

@@ -37,7 +37,7 @@ fn is_whole(line: &[u8], kind: Kind) -> bool
     ensures { λ r. ⌜ Tells r (Whole kind (now (line .entry))) ⌝ }
 {
     match kind {
-        Kind::Encodes => encoding::is_whole(line),
+        Kind::Encodes(manual) => encoding::is_whole(line, manual),
         Kind::Sweeps(rule) => sweeping::is_whole(line, rule),
         Kind::Asks => asking::is_whole(line),
         Kind::Places => placing::is_whole(line),
@@ -50,7 +50,7 @@ fn agrees(line: &[u8], kind: Kind) -> bool
     ensures { λ r. ⌜ Tells r (Right kind (now (line .entry))) ⌝ }
 {
     match kind {
-        Kind::Encodes => encoding::agrees(line),
+        Kind::Encodes(manual) => encoding::agrees(line, manual),
         Kind::Sweeps(rule) => sweeping::agrees(line, rule),
         Kind::Asks => asking::agrees(line),
         Kind::Places => placing::agrees(line),

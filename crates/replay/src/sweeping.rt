@@ -1,6 +1,7 @@
 // A line with an image, and what sweeping it by a rule gives.
 ghost use mathlib.Core.Path.{_≡_};
 ghost use lib.ListN.{length};
+ghost use Rattle.rows.specs.Groups.{document01};
 ghost use Rattle.sweep.specs.Sweep.{Sweeps};
 ghost use Rattle.replay.specs.Verdict.{Tells};
 ghost use Rattle.replay.specs.Sweeping.{formOf, Whole, imageIn, placeIn, refusedIn, sweptIn, places, Begins, Right};
@@ -56,7 +57,7 @@ fn are_bits(starts: &[u16], count: usize, bits: u16) -> bool
 }
 
 fn sweep_by(rule: Rule, image: &[u8], starts: &mut [u16]) -> Swept
-    ensures { λ r. ⌜ Sweeps rule (now (image .entry)) (now (starts .entry)) r (now (starts .exit)) ⌝ }
+    ensures { λ r. ⌜ Sweeps document01 rule (now (image .entry)) (now (starts .entry)) r (now (starts .exit)) ⌝ }
 {
     match rule {
         Rule::GoOn => sweep::sweep(image, starts),
@@ -67,7 +68,7 @@ fn sweep_by(rule: Rule, image: &[u8], starts: &mut [u16]) -> Swept
 // What the sweep says of the image that a line gives.
 fn swept(line: &[u8], rule: Rule, starts: &mut [u16]) -> Swept
     requires { ⌜ Whole rule (now line) ⌝ }
-    ensures { λ r. ⌜ Sweeps rule (imageIn (now (line .entry))) (now (starts .entry)) r (now (starts .exit)) ⌝ }
+    ensures { λ r. ⌜ Sweeps document01 rule (imageIn (now (line .entry))) (now (starts .entry)) r (now (starts .exit)) ⌝ }
 {
     let mut bytes = [0u8; 16];
     hex::read_bytes(line, 3, &mut bytes);

@@ -11,8 +11,7 @@ use lib.ListN.{length, drop, length-drop}
 use borrow.Author.Tests.{leb-true, leb-false, eqb-true, eqb-false, le-leb}
 use Rattle.record.specs.declared.Answer.{Answer}
 use Rattle.rows.specs.Row.{Table}
-use Rattle.rows.specs.Groups.{document01}
-use Rattle.rows.specs.Run.{decodeBy, decodeRows}
+use Rattle.rows.specs.Run.{decodeBy}
 use Rattle.rows.proofs.Taken.{counted}
 use Rattle.rows.proofs.Length.{at-least}
 use Rattle.sweep.specs.declared.Rule.{Rule}
@@ -143,9 +142,6 @@ module _ {reading : List ℕ → Answer} (advances : Advances reading) (bs : Lis
             subst (P p) (sym (turned p refl))
             (by p (onward rule p (here p)) refl (λ q e. let l = further p q (here p) (told p refl) e in from k q (omega arith)))
 
--- decoding by any table, and by document 01's
+-- decoding by any table
 pub by-table : (t : Table) → Advances (decodeBy t)
 by-table t = record { some = λ bs z. let l = at-least t bs z in omega arith; within = λ bs. counted t bs .within }
-
-pub by-rows : Advances decodeRows
-by-rows = by-table document01

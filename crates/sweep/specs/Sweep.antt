@@ -1,4 +1,4 @@
--- Document 01's sweep and request A1's, read off the walk by their rule: the accepted places, how many were refused and passed, where and
+-- Document 01's sweep and request A1's, read off the walk by their rule and, by request A9, a table: the accepted places, how many were refused and passed, where and
 -- why it stops, and by request A13 how many bytes its decodings took.
 use Prim.Native.Nat.{ℕ, _+_}
 use mathlib.Core.Path.{_≡_}
@@ -8,7 +8,8 @@ use lib.ListN.{length}
 use lib.Dec.{ltb}
 use Rattle.laws.specs.Choice.{pick}
 use Rattle.laws.specs.Over.{over}
-use Rattle.rows.specs.Run.{decodeRows}
+use Rattle.rows.specs.Row.{Table}
+use Rattle.rows.specs.Run.{decodeBy}
 use Rattle.sweep.specs.declared.Rule.{Rule}
 use Rattle.sweep.specs.declared.Swept.{Swept}
 use Rattle.sweep.specs.declared.step.Step.{Step}
@@ -81,12 +82,12 @@ abbrev pub notSwept : ℕ → Swept
 notSwept e = record { refusal = e; count = 0; place = 0; refused = 0; read = 0 }
 
 -- 7 for an image over 4,096 bytes, then 6 for fewer entries than bytes
-unfoldable pub whole : Rule → List ℕ → List ℕ → Outcome
-whole rule bs ss =
+unfoldable pub whole : Table → Rule → List ℕ → List ℕ → Outcome
+whole t rule bs ss =
     pick (ltb 4096 (length bs)) (outcome (notSwept 7) ss)
-    (pick (ltb (length ss) (length bs)) (outcome (notSwept 6) ss) (outcomeOf (walk decodeRows rule bs 0) ss))
+    (pick (ltb (length ss) (length bs)) (outcome (notSwept 6) ss) (outcomeOf (walk (decodeBy t) rule bs 0) ss))
 
 -- the promise: what is returned, and every entry of the starts as it is left
-pub record Sweeps (rule : Rule) (image starts : List ℕ) (r : Swept) (after : List ℕ) : Type 0 where
-  pub returned : r ≡ whole rule image starts .swept
-  pub kept : after ≡ whole rule image starts .starts
+pub record Sweeps (t : Table) (rule : Rule) (image starts : List ℕ) (r : Swept) (after : List ℕ) : Type 0 where
+  pub returned : r ≡ whole t rule image starts .swept
+  pub kept : after ≡ whole t rule image starts .starts

@@ -1,7 +1,9 @@
-// Decoding repeated over an image, by a rule: where its instructions start, and what becomes of the places that are refused.
+// Decoding repeated over an image, by a reading and a rule: where its instructions start, and what becomes of the places that are refused.
 ghost use Prim.Native.Nat.{_+_, _-_, _≤_};
 ghost use mathlib.Core.Path.{_≡_};
 ghost use lib.ListN.{length};
+ghost use Rattle.rows.specs.Groups.{document01};
+ghost use Rattle.by_manual.specs.Table.{byManual, tableBy};
 ghost use Rattle.sweep.specs.Sweep.{notSwept, Sweeps};
 ghost use Rattle.sweep.specs.steps.Before.{Took, Runs};
 use record::refusal;
@@ -35,22 +37,35 @@ struct Stopped {
 
 // The starts of an image's instructions to its end; a refused place is counted, and passed by one byte.
 pub fn sweep(image: &[u8], starts: &mut [u16]) -> Swept
-    ensures { λ r. ⌜ Sweeps Rule.GoOn (now (image .entry)) (now (starts .entry)) r (now (starts .exit)) ⌝ }
+    ensures { λ r. ⌜ Sweeps document01 Rule.GoOn (now (image .entry)) (now (starts .entry)) r (now (starts .exit)) ⌝ }
 {
-    sweep_by(Rule::GoOn, image, starts)
+    sweep_by(false, Rule::GoOn, image, starts)
 }
 
 // The starts of an image's instructions to its end or the first refusal.
 pub fn sweep_stopping(image: &[u8], starts: &mut [u16]) -> Swept
-    ensures { λ r. ⌜ Sweeps Rule.Stop (now (image .entry)) (now (starts .entry)) r (now (starts .exit)) ⌝ }
+    ensures { λ r. ⌜ Sweeps document01 Rule.Stop (now (image .entry)) (now (starts .entry)) r (now (starts .exit)) ⌝ }
 {
-    sweep_by(Rule::Stop, image, starts)
+    sweep_by(false, Rule::Stop, image, starts)
+}
+
+// Both by the manual.
+pub fn sweep_manual(image: &[u8], starts: &mut [u16]) -> Swept
+    ensures { λ r. ⌜ Sweeps byManual Rule.GoOn (now (image .entry)) (now (starts .entry)) r (now (starts .exit)) ⌝ }
+{
+    sweep_by(true, Rule::GoOn, image, starts)
+}
+
+pub fn sweep_manual_stopping(image: &[u8], starts: &mut [u16]) -> Swept
+    ensures { λ r. ⌜ Sweeps byManual Rule.Stop (now (image .entry)) (now (starts .entry)) r (now (starts .exit)) ⌝ }
+{
+    sweep_by(true, Rule::Stop, image, starts)
 }
 
 // A run stops at a refused place; by the rule of going on another begins behind it. The loop over runs is apart from the loop over
 // instructions, since one loop for both takes more machine instructions than a sweep did that could only stop.
-fn sweep_by(rule: Rule, image: &[u8], starts: &mut [u16]) -> Swept
-    ensures { λ r. ⌜ Sweeps rule (now (image .entry)) (now (starts .entry)) r (now (starts .exit)) ⌝ }
+fn sweep_by(manual: bool, rule: Rule, image: &[u8], starts: &mut [u16]) -> Swept
+    ensures { λ r. ⌜ Sweeps (tableBy manual) rule (now (image .entry)) (now (starts .entry)) r (now (starts .exit)) ⌝ }
 {
     if 4096 < image.len() {
         return not_swept(refusal::IMAGE_TOO_LONG);
@@ -64,7 +79,7 @@ fn sweep_by(rule: Rule, image: &[u8], starts: &mut [u16]) -> Swept
     // The bytes that refused decodings took behind their places: with those before the place they are all that was read.
     let mut again: usize = 0;
     loop {
-        let stopped = run(image, place, starts, count);
+        let stopped = run(manual, image, place, starts, count);
         if stopped.refusal == refusal::ACCEPTED {
             let read = stopped.place + again;
             return Swept {
@@ -115,14 +130,14 @@ fn read_again(before: usize, refusal: u8, taken: usize, left: usize) -> usize
 
 // The instructions one behind the other from a place on, to the image's end or the first refusal. Their starts come behind those kept
 // before, each of which has a byte of the image before that place.
-fn run(image: &[u8], from: usize, starts: &mut [u16], kept: usize) -> Stopped
+fn run(manual: bool, image: &[u8], from: usize, starts: &mut [u16], kept: usize) -> Stopped
     requires { ⌜ (length (now image) ≤ 4096) × (length (now image) ≤ length (now starts)) × (kept ≤ from) × (from ≤ length (now image)) ⌝ }
-    ensures { λ r. ⌜ Runs (now (image .entry)) from kept (now (starts .entry)) r (now (starts .exit)) ⌝ }
+    ensures { λ r. ⌜ Runs (tableBy manual) (now (image .entry)) from kept (now (starts .entry)) r (now (starts .exit)) ⌝ }
 {
     let mut count = kept;
     let mut place = from;
     loop {
-        let here = step::step_at(image, place);
+        let here = step::step_at(manual, image, place);
         match here {
             Step::End => {
                 break Stopped {

@@ -1,6 +1,7 @@
 // What stands at a place of an image. Every walk over an image goes by it.
 ghost use mathlib.Core.Path.{_≡_};
-ghost use Rattle.rows.specs.Run.{decodeRows};
+ghost use Rattle.rows.specs.Run.{decodeBy};
+ghost use Rattle.by_manual.specs.Table.{tableBy};
 ghost use Rattle.sweep.specs.Walk.{stepAt};
 use record::Record;
 use record::refusal;
@@ -12,13 +13,13 @@ pub enum Step {
     Refused(u8, usize),
 }
 
-pub fn step_at(image: &[u8], place: usize) -> Step
-    ensures { λ r. ⌜ r ≡ stepAt decodeRows (now (image .entry)) place ⌝ }
+pub fn step_at(manual: bool, image: &[u8], place: usize) -> Step
+    ensures { λ r. ⌜ r ≡ stepAt (decodeBy (tableBy manual)) (now (image .entry)) place ⌝ }
 {
     if image.len() <= place {
         return Step::End;
     }
-    let a = decode::decode(image, place);
+    let a = decode::decode_by(manual, image, place);
     if a.refusal != refusal::ACCEPTED {
         return Step::Refused(a.refusal, a.taken);
     }

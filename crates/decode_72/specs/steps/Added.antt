@@ -21,9 +21,12 @@ unfolding isTwo isList
 isAdded a = either (isTwo a) (isList a)
 
 -- of a pair, by the first byte's eighth
+abbrev pub opcodeAt : ℕ → Opcode
+opcodeAt n =
+    getD (TST ∷ XOR ∷ AND ∷ OR ∷ ADD ∷ SUB ∷ ADC ∷ SBB ∷ CMP ∷ NOP ∷ NOP ∷ NOP ∷ NOP ∷ NOP ∷ MOV ∷ NOP ∷ []) n NOP
+
 abbrev pub opcodeOf : ℕ → Opcode
-opcodeOf a =
-    getD (TST ∷ XOR ∷ AND ∷ OR ∷ ADD ∷ SUB ∷ ADC ∷ SBB ∷ CMP ∷ NOP ∷ NOP ∷ NOP ∷ NOP ∷ NOP ∷ MOV ∷ NOP ∷ []) (a / 8 % 16) NOP
+opcodeOf a = opcodeAt (a / 8 % 16)
 
 abbrev pub listOpcode : ℕ → Opcode
 listOpcode a = pick (eqb (a % 2) 0) PUSHM POPM

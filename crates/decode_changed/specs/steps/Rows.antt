@@ -1,17 +1,19 @@
 -- The changed rows as the code has them: several that differ in their opcode or size as one.
-use Prim.Native.Nat.{ℕ, _+_}
+use Prim.Native.Nat.{ℕ, _+_, _%_}
 use mathlib.Core.List.{[], _∷_}
-use lib.Dec.{ltb, eqb}
-use Rattle.laws.specs.Choice.{pick}
+use lib.Dec.{ltb, leb, eqb}
+use Rattle.laws.specs.Choice.{pick, both}
 use Rattle.record.specs.declared.Opcode.{Opcode}
 use Rattle.record.specs.declared.Opcode.the-variants.{ADCF, BMGE, BMLT, BMNO, DIVU, DIVX, FCLR, FSET, JMPI, JSRI, MUL, MULU}
 use Rattle.record.specs.declared.Size.{Size}
 use Rattle.record.specs.declared.Size.the-variants as size
 use Rattle.record.specs.declared.Width.{Width}
+use Rattle.record.specs.declared.Width.the-variants.{B, W}
 use Rattle.rows.specs.Row.{InvalidOpcode, Row}
 use Rattle.rows.specs.Codes.{nameG, nameI, G, I, refuse}
-use Rattle.rows.specs.Rows.{row, refused, sizeOf, badMul}
-use Rattle.by_manual.specs.Changed.{Change, stays, becomes}
+use Rattle.rows.specs.Rows.{row, refused, sizeOf, badMul, flagged}
+use Rattle.readers.specs.steps.Width.{widthOf}
+use Rattle.by_manual.specs.Changed.{Change, stays, becomes, toStack, alone, ldc, wordJump, ldipl, addSP, flag}
 
 -- a row that takes a code's place; where none does, any
 abbrev pub newRow : Change → Row
@@ -47,3 +49,21 @@ conditionOpcode n = pick (eqb n 10) BMGE (pick (eqb n 13) BMNO BMLT)
 -- EB by the low nibble: 4, 5
 abbrev pub flagOpcode : ℕ → Opcode
 flagOpcode n = pick (eqb n 4) FSET FCLR
+
+-- the row that is decoded at a code of 7D, and at one of any first byte; where none is changed, some row
+abbrev pub row7D : ℕ → ℕ → Row
+row7D h n =
+    pick (eqb h 4) (mulAt W h n)
+    (pick (eqb h 5) (mulAt W h n)
+    (pick (eqb h 10) (ldipl n)
+    (pick (eqb h 11) (addSP n)
+    (pick (eqb h 13) (flagged (conditionOpcode n)) (wordJump (jumpOpcode h) n)))))
+
+abbrev pub rowOf : ℕ → ℕ → ℕ → Row
+rowOf a h n =
+    let w = widthOf (eqb (a % 2) 0) in
+    pick (both (leb 0x74 a) (ltb a 0x76)) (toStack w n)
+    (pick (both (leb 0x76 a) (ltb a 0x78)) (alone (aloneOpcode h) w n)
+    (pick (eqb a 0x7A) (ldc (h % 8) n)
+    (pick (eqb a 0x7C) (mulAt B h n)
+    (pick (eqb a 0x7D) (row7D h n) (flag (flagOpcode n) h)))))

@@ -10,10 +10,10 @@ use Rattle.listing.proofs.list.Statement.{statement}
 use Rattle.listing.proofs.list.Tie as tie
 
 abbrev Inv-loop : tie.InvT-loop
-Inv-loop rule image out₀ next₀ out next = length out ≡ 8192
+Inv-loop manual rule image out₀ next₀ out next = length out ≡ 8192
 
 abbrev μ-loop : tie.MeasureT-loop
-μ-loop rule image out₀ next₀ out next = pagesLeft image next
+μ-loop manual rule image out₀ next₀ out next = pagesLeft image next
 
 slice-aggregate-fill : tie.Need-slice-aggregate-fill Inv-loop μ-loop
 slice-aggregate-fill c = sym (c .before .before .before .loop .inv)

@@ -7,52 +7,54 @@ use native.Mathlib.Omega.{arith}
 use lib.ListN.{length}
 use borrow.Author.Needs.{needs}
 use borrow.Author.Tests.{lt-ltb, le-ltb}
-use Rattle.rows.specs.Run.{decodeRows}
+use Rattle.rows.specs.Row.{Table}
+use Rattle.rows.specs.Run.{decodeBy}
+use Rattle.by_manual.specs.Table.{tableBy}
 use Rattle.sweep.specs.declared.Rule.{Rule}
 use Rattle.sweep.specs.declared.Rule.the-variants.{Stop}
 use Rattle.sweep.specs.declared.Swept.{Swept}
 use Rattle.sweep.specs.Walk.{walk}
 use Rattle.sweep.specs.Sweep.{outcome, notSwept, whole, Sweeps}
 use Rattle.sweep.specs.steps.Before.{outcomeIn, behind}
-use Rattle.sweep.proofs.Walk.{by-rows}
+use Rattle.sweep.proofs.Walk.{by-table}
 use Rattle.sweep.proofs.Before.{none-before}
 use Rattle.sweep.proofs.Runs.{Continues, continues}
 use Rattle.sweep.proofs.sweep_by.Statement.{statement}
 use Rattle.sweep.proofs.sweep_by.Tie as tie
 
-module _ (rule : Rule) (bs ss : List ℕ) where
+module _ (t : Table) (rule : Rule) (bs ss : List ℕ) where
   -- an outcome that is the whole answer keeps the promise
-  sweeps : {r : Swept} {after : List ℕ} → outcome r after ≡ whole rule bs ss → Sweeps rule bs ss r after
+  sweeps : {r : Swept} {after : List ℕ} → outcome r after ≡ whole t rule bs ss → Sweeps t rule bs ss r after
   sweeps e = record { returned = ap (λ x. x .swept) e; kept = ap (λ x. x .starts) e }
 
-  too-long : {r : Swept} → 4096 < length bs → r ≡ notSwept 7 → Sweeps rule bs ss r ss
+  too-long : {r : Swept} → 4096 < length bs → r ≡ notSwept 7 → Sweeps t rule bs ss r ss
   unfolding whole
   too-long h e = sweeps (rw (lt-ltb _ _ h) (ap (λ x. outcome x ss) e))
 
-  no-room : {r : Swept} → length bs ≤ 4096 → length ss < length bs → r ≡ notSwept 6 → Sweeps rule bs ss r ss
+  no-room : {r : Swept} → length bs ≤ 4096 → length ss < length bs → r ≡ notSwept 6 → Sweeps t rule bs ss r ss
   unfolding whole
   no-room h g e = sweeps (rw (le-ltb _ _ h, lt-ltb _ _ g) (ap (λ x. outcome x ss) e))
 
-  begun : length bs ≤ 4096 → length bs ≤ length ss → behind (walk decodeRows rule bs 0) 0 0 0 ss ≡ whole rule bs ss
+  begun : length bs ≤ 4096 → length bs ≤ length ss → behind (walk (decodeBy t) rule bs 0) 0 0 0 ss ≡ whole t rule bs ss
   unfolding whole
-  begun h g = rw (le-ltb _ _ h, le-ltb _ _ g) (none-before (walk decodeRows rule bs 0) ss)
+  begun h g = rw (le-ltb _ _ h, le-ltb _ _ g) (none-before (walk (decodeBy t) rule bs 0) ss)
 
 abbrev Inv-loop : tie.InvT-loop
-Inv-loop rule image starts₀ count₀ place₀ refused₀ again₀ starts count place refused again =
+Inv-loop manual rule image starts₀ count₀ place₀ refused₀ again₀ starts count place refused again =
     (count + refused ≤ place) × (place ≤ length image) × (length starts ≡ length starts₀) × (rule ≡ Stop → refused ≡ 0)
-    × (behind (walk decodeRows rule image place) count refused (place + again) starts ≡ whole rule image starts₀) × (again ≤ 4096 * place)
+    × (behind (walk (decodeBy (tableBy manual)) rule image place) count refused (place + again) starts ≡ whole (tableBy manual) rule image starts₀) × (again ≤ 4096 * place)
 
 abbrev μ-loop : tie.MeasureT-loop
-μ-loop rule image starts₀ count₀ place₀ refused₀ again₀ starts count place refused again = length image - place
+μ-loop manual rule image starts₀ count₀ place₀ refused₀ again₀ starts count place refused again = length image - place
 
 returns : tie.Need-returns Inv-loop μ-loop
-returns c = too-long _ _ _ (omega arith) (c .not-swept .ensures)
+returns c = too-long _ _ _ _ (omega arith) (c .not-swept .ensures)
 
 returns-2 : tie.Need-returns-2 Inv-loop μ-loop
-returns-2 c = no-room _ _ _ (omega arith) (omega arith) (c .not-swept2 .ensures)
+returns-2 c = no-room _ _ _ _ (omega arith) (omega arith) (c .not-swept2 .ensures)
 
 loop-holds : tie.Need-loop-holds Inv-loop μ-loop
-loop-holds c = (omega arith, omega arith, refl, λ e. refl, begun _ _ _ (omega arith) (omega arith), omega arith)
+loop-holds c = (omega arith, omega arith, refl, λ e. refl, begun _ _ _ _ (omega arith) (omega arith), omega arith)
 
 run-requires : tie.Need-run-requires Inv-loop μ-loop
 run-requires c κs = (omega arith, omega (arith, c .before .loop .inv .2), omega arith, omega arith)
@@ -71,11 +73,11 @@ module _ (d : tie.After-run Inv-loop μ-loop) where
   -- n bytes were read, the run's among them
   goes-on : {n : ℕ} → turn .loop .place + turn .loop .again + (d .run .result .place - turn .loop .place + d .run .result .taken) ≡ n
       → let r = d .run .result in
-      Continues (given .args .rule) (walk decodeRows (given .args .rule) (given .args .image .now)) (given .args .image .now)
-      (whole (given .args .rule) (given .args .image .now) (given .args .starts .now)) (turn .loop .refused) n (r .refusal) (r .count) (r .place) (d .run .last .1 .1 .0)
+      Continues (given .args .rule) (walk (decodeBy (tableBy (given .args .manual))) (given .args .rule) (given .args .image .now)) (given .args .image .now)
+      (whole (tableBy (given .args .manual)) (given .args .rule) (given .args .image .now) (given .args .starts .now)) (turn .loop .refused) n (r .refusal) (r .count) (r .place) (d .run .last .1 .1 .1 .0)
   goes-on read =
       let l = turn .loop in
-      continues by-rows (given .args .image .now) (given .args .rule) (l .place) (l .count) (l .refused) (l .place + l .again) (l .starts) room (d .run .ensures .walked) read
+      continues (by-table (tableBy (given .args .manual))) (given .args .image .now) (given .args .rule) (l .place) (l .count) (l .refused) (l .place + l .again) (l .starts) room (d .run .ensures .walked) read
       (l .inv .4)
 
 abbrev ran : tie.After-struct-known Inv-loop μ-loop → tie.After-run Inv-loop μ-loop
@@ -92,7 +94,7 @@ returns-3 c =
     let d = ran (c .before .before) in
     let end = c .before .if3 .taken in
     let done = d .run .ensures in
-    sweeps _ _ _ (goes-on d (omega (arith, done .ahead, done .took .none end)) .ended end)
+    sweeps _ _ _ _ (goes-on d (omega (arith, done .ahead, done .took .none end)) .ended end)
 
 sub-left : tie.Need-sub-left Inv-loop μ-loop
 sub-left c = omega (arith, ran (c .before .before) .run .ensures .inside)
@@ -132,7 +134,7 @@ returns-4 c =
     let d = refused asked in
     let r = d .run .result in
     let stop = c .before .enum-told .given .1 in
-    sweeps _ _ _ (ap (λ m. outcomeIn (r .refusal) (r .count) (r .place) m (r .place + 1 + asked .read-again .result) (d .run .last .1 .1 .0)) (sym (turn d .loop .inv .3 stop)) ∙ goes-on d (passed asked) .stopped stop)
+    sweeps _ _ _ _ (ap (λ m. outcomeIn (r .refusal) (r .count) (r .place) m (r .place + 1 + asked .read-again .result) (d .run .last .1 .1 .1 .0)) (sym (turn d .loop .inv .3 stop)) ∙ goes-on d (passed asked) .stopped stop)
 
 loop-again : tie.Need-loop-again Inv-loop μ-loop
 loop-again c =

@@ -1,4 +1,4 @@
--- `sweep::sweep_stopping` meets its contract: it is that of the sweep by its rule.
+-- `sweep::sweep_stopping` meets its contract: it is that of the sweep by its reading and rule.
 -- Assumes nothing.
 use borrow.Author.Needs.{needs}
 use Rattle.sweep.proofs.sweep_stopping.Statement.{statement}

@@ -4,7 +4,8 @@ use mathlib.Core.Path.{_≡_}
 use mathlib.Core.List.{List}
 use lib.ListN.{length}
 use Rattle.laws.specs.Over.{put}
-use Rattle.rows.specs.Run.{decodeRows}
+use Rattle.rows.specs.Row.{Table}
+use Rattle.rows.specs.Run.{decodeBy}
 use Rattle.sweep.specs.declared.Rule.the-variants.{Stop}
 use Rattle.sweep.specs.declared.Stopped.{Stopped}
 use Rattle.sweep.specs.Walk.{Walk, walk}
@@ -28,8 +29,8 @@ pub record Took (refusal taken left : ℕ) : Type 0 where
 
 -- a run from a place on, with starts kept before: the stopping walk from there, whose instructions took the bytes up to where it stops, and
 -- no more starts than bytes
-pub record Runs (image : List ℕ) (from kept : ℕ) (starts : List ℕ) (r : Stopped) (after : List ℕ) : Type 0 where
-  pub walked : outcomeIn (r .refusal) (r .count) (r .place) 0 (r .place - from + r .taken) after ≡ behind (walk decodeRows Stop image from) kept 0 0 starts
+pub record Runs (t : Table) (image : List ℕ) (from kept : ℕ) (starts : List ℕ) (r : Stopped) (after : List ℕ) : Type 0 where
+  pub walked : outcomeIn (r .refusal) (r .count) (r .place) 0 (r .place - from + r .taken) after ≡ behind (walk (decodeBy t) Stop image from) kept 0 0 starts
   pub long : length after ≡ length starts
   pub ahead : from ≤ r .place
   pub inside : r .place + r .taken ≤ length image

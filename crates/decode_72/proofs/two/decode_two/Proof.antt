@@ -30,12 +30,12 @@ returns-2 c =
     let g = read .before .before .before .before in
     let s = g .before .before .before .before .before in
     goes _ _ _ _ (first _ _ (g .general .ensures)) _ source
-    (ended _ _ refl _ (near _ _ _ (behind-general (s .args .b / 16) (now (s .args .bs)) (g .general .ensures) source) (read .general2 .ensures)) (c .finish .ensures) refl
+    (ended _ _ refl _ (near _ _ _ (behind-general (s .args .b / 16) (now (s .args .bs)) (g .general .ensures) source) (read .general2 .ensures)) (c .finish .ensures) (g .before .before .before .opcode-of .ensures)
     (c .before .before .size-of .ensures) (c .before .width-of .ensures)
     (named-high (widthOf (eqb (s .args .a % 2) 0)) (s .args .b) (omega (arith, s .fits .b)) (g .before .before .general-name .ensures)) (g .before .general-name2 .ensures) refl)
 
 pub decode-two-spec : {M : Type 1} → statement M
 decode-two-spec =
     tie.close
-    (tie.spec (λ c. search needs) (λ c. search needs) (λ c κs. search needs) (λ c κs. search needs) (λ c κs. search needs) (λ c. search needs) (λ c κs. search needs)
+    (tie.spec (λ c κs. search needs) (λ c κs. search needs) (λ c κs. search needs) (λ c κs. search needs) (λ c. search needs) (λ c κs. search needs)
     (λ c. search needs) (λ c κs. search needs) (λ c κs. search needs) (λ c κs. search needs) (λ c κs. search needs) returns returns-2)

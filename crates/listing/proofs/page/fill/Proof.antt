@@ -7,7 +7,7 @@ use Rattle.listing.proofs.page.fill.Statement.{statement}
 use Rattle.listing.proofs.page.fill.Tie as tie
 
 too-long : tie.Need-returns
-too-long c = rw (c .before .before .before .before .enum-told .given .1) (c .before .before .fill-too-long .ensures _ _)
+too-long c = let s = c .before .before .before .before .before .before .before .before in rw (c .before .before .before .before .enum-told .given .1) (c .before .before .fill-too-long .ensures (s .args .manual) _ _)
 
 lines : tie.Need-returns-2
 lines c = rw (c .before .before .before .before .before .next .given .1) (c .before .before .fill-lines .ensures)

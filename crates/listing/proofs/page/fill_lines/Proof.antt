@@ -7,9 +7,10 @@ use native.Mathlib.Omega.{arith}
 use lib.ListN.{length, take, length-drop}
 use borrow.Author.Needs.{needs}
 use Rattle.laws.proofs.Rest.{rest}
+use Rattle.by_manual.specs.Table.{tableBy}
 use Rattle.sweep.specs.declared.step.Step.{Step}
 use Rattle.sweep.specs.Walk.{Onward, on, onward}
-use Rattle.sweep.proofs.Walk.{Told, told, bytes-left, further, by-rows}
+use Rattle.sweep.proofs.Walk.{Told, told, bytes-left, further, by-table}
 use Rattle.laws.proofs.Over.{written-length}
 use Rattle.listing.specs.declared.page.Next.the-variants.{From}
 use Rattle.listing.specs.Listing.{lineAt, listed}
@@ -19,12 +20,12 @@ use Rattle.listing.proofs.page.fill_lines.Statement.{statement}
 use Rattle.listing.proofs.page.fill_lines.Tie as tie
 
 abbrev Inv-loop : tie.InvT-loop
-Inv-loop rule image from out₀ at₀ place₀ out at place =
+Inv-loop manual rule image from out₀ at₀ place₀ out at place =
     (at ≤ length out) × (length out ≡ length out₀) × (from ≤ place) × (place ≤ from + (length image - from)) × (at ≤ 121 * (place - from))
-    × (take at out ++ listed rule image place ≡ listed rule image from)
+    × (take at out ++ listed (tableBy manual) rule image place ≡ listed (tableBy manual) rule image from)
 
 abbrev μ-loop : tie.MeasureT-loop
-μ-loop rule image from out₀ at₀ place₀ out at place = length image - place
+μ-loop manual rule image from out₀ at₀ place₀ out at place = length image - place
 
 loop-holds : tie.Need-loop-holds Inv-loop μ-loop
 loop-holds c = (omega arith, refl, omega arith, omega arith, omega arith, refl)
@@ -54,7 +55,7 @@ room : (p : Put) → length (line p) ≤ 121
 room p = line-room (turn p .loop .place) (here p)
 
 lies : (p : Put) → Told (start p .args .image .now) (turn p .loop .place) (here p)
-lies p = told by-rows (start p .args .image .now) (turn p .loop .place) (p .before .before .step-at .ensures)
+lies p = told (by-table (tableBy (start p .args .manual))) (start p .args .image .now) (turn p .loop .place) (p .before .before .step-at .ensures)
 
 add-at : tie.Need-add-at Inv-loop μ-loop
 add-at c = let p = c .before .before in omega (arith, p .put-line .ensures .0, room p)
@@ -77,7 +78,7 @@ abbrev next : {q : ℕ} (a : Asked) → a .behind .result ≡ From q → onwards
 next a e = leads (onwards a) (sym (a .behind .ensures) ∙ e)
 
 lies-behind : {q : ℕ} (a : Asked) → a .behind .result ≡ From q → (turn (put a) .loop .place < q) × (q ≤ length (start (put a) .args .image .now))
-lies-behind {q} a e = further by-rows (start (put a) .args .image .now) (start (put a) .args .rule) (turn (put a) .loop .place) q (here (put a)) (lies (put a)) (next a e)
+lies-behind {q} a e = further (by-table (tableBy (start (put a) .args .manual))) (start (put a) .args .image .now) (start (put a) .args .rule) (turn (put a) .loop .place) q (here (put a)) (lies (put a)) (next a e)
 
 loop-less : tie.Need-loop-less Inv-loop μ-loop
 loop-less c = let a = c .before .before .before in omega (arith, lies-behind a (c .before .q .given .1))
@@ -96,7 +97,7 @@ loop-again c =
       omega arith,
       omega (arith, n .0, room p),
       line-more (l .at) (l .out) (line p) (omega (arith, room p)) n _
-          (from-here (start p .args .rule) (start p .args .image .now) (l .place) (p .before .before .step-at .ensures) (next a (c .before .q .given .1))) (l .inv .5),
+          (from-here (tableBy (start p .args .manual)) (start p .args .rule) (start p .args .image .now) (l .place) (p .before .before .step-at .ensures) (next a (c .before .q .given .1))) (l .inv .5),
     )
 
 same-length : tie.Need-same-length Inv-loop μ-loop
@@ -113,7 +114,7 @@ returns c =
     let n = p .put-line .ensures in
     record {
       same = line-last (l .at) (l .out) (line p) (omega (arith, room p)) n
-          (from-here (start p .args .rule) (start p .args .image .now) (l .place) (p .before .before .step-at .ensures) (stops (onwards a) (a .behind .ensures) (c .match .keys2))) (l .inv .5);
+          (from-here (tableBy (start p .args .manual)) (start p .args .rule) (start p .args .image .now) (l .place) (p .before .before .step-at .ensures) (stops (onwards a) (a .behind .ensures) (c .match .keys2))) (l .inv .5);
       inside = omega (arith, n .0, room p);
       onward = λ h e. omega arith;
     }

@@ -23,12 +23,12 @@ accepted x h = rw (eq-eqb _ 0 h)
 
 returns-2 : tie.Need-returns-2
 unfolding stepAt
-returns-2 c = let d = c .before .before .decode in rw (lt-leb _ _ (c .before .before .before .if1 .left)) (refused (d .result) (c .if2 .taken) ∙ ap answered (d .ensures))
+returns-2 c = let d = c .before .before .decode-by in rw (lt-leb _ _ (c .before .before .before .if1 .left)) (refused (d .result) (c .if2 .taken) ∙ ap answered (d .ensures))
 
 returns-3 : tie.Need-returns-3
 unfolding stepAt
 returns-3 c =
-    let d = c .before .before .before .decode in
+    let d = c .before .before .before .decode-by in
     rw (lt-leb _ _ (c .before .before .before .before .if1 .left)) (accepted (d .result) (c .before .if2 .left) ∙ ap answered (d .ensures))
 
 pub step-at-spec : {M : Type 1} → statement M

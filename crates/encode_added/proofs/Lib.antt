@@ -1,0 +1,9 @@
+pub mod Parts
+pub mod Apart
+pub mod Added
+pub mod Numbered
+pub mod Right
+pub mod Formed
+pub mod Whole
+pub mod Examples
+pub mod InSets

@@ -1,0 +1,8 @@
+-- `sweep::sweep_manual` meets its contract: it is that of the sweep by its reading and rule.
+-- Assumes nothing.
+use borrow.Author.Needs.{needs}
+use Rattle.sweep.proofs.sweep_manual.Statement.{statement}
+use Rattle.sweep.proofs.sweep_manual.Tie as tie
+
+pub sweep-manual-spec : {M : Type 1} → statement M
+sweep-manual-spec = tie.close (tie.spec (λ c κs. search needs) (λ c. search needs) (λ c. c .before .before .sweep-by .ensures))
