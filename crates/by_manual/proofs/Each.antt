@@ -1,7 +1,7 @@
 -- What holds of document 01's rows and of those that request A9 changes holds of every row of the reading by the manual.
 -- Assumes nothing.
 use Prim.Native.Nat.{ℕ, _/_, _%_, _<_}
-use mathlib.Core.Path.{_≡_, refl, sym, ap, subst}
+use mathlib.Core.Path.{_≡_, refl, sym, subst}
 use mathlib.Core.Bool.{Bool, true, false}
 use mathlib.Core.List.{List, [], _∷_}
 use lib.Dec.{T, eqb}

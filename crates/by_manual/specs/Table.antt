@@ -1,5 +1,5 @@
 -- Request A9: the table of a reading by the manual, and the two readings.
-use Prim.Native.Nat.{ℕ, _/_, _%_}
+use Prim.Native.Nat.{_/_, _%_}
 use mathlib.Core.Bool.{Bool, true, false}
 use Rattle.rows.specs.Row.{Row, Table}
 use Rattle.rows.specs.Groups.{known, document01}

@@ -7,7 +7,6 @@ ghost use lib.Dec.{eqb};
 ghost use lib.ListN.{length, drop};
 ghost use Rattle.rows.specs.Rows.{row74, row76, row78, row7A, row7B, row7C, row7D, row7E, rowEB};
 ghost use Rattle.rows.specs.Pairs.{two};
-ghost use Rattle.rows.specs.Groups.{document01};
 ghost use Rattle.rows.specs.Run.{refusal, runRow, decodeRows};
 ghost use Rattle.readers.specs.steps.Width.{widthOf};
 ghost use Rattle.decode_72.specs.steps.Added.{opcodeOf};

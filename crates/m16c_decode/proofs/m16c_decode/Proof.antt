@@ -1,34 +1,27 @@
 -- `m16c_decode::m16c_decode` meets its contract.
 -- Assumes nothing.
 use Prim.Native.Nat.{ℕ, _/_, _%_, _-_, _≤_, _<_}
-use mathlib.Core.Path.{_≡_, refl, sym, subst, _∙_}
+use mathlib.Core.Path.{_≡_, refl, sym, _∙_}
 use mathlib.Core.Logic.{_⊎_, inl, inr, ⊎-elim}
-use mathlib.Core.Bool.{true, false}
+use mathlib.Core.Bool.{false}
 use mathlib.Core.List.{List}
 use native.Mathlib.Omega.{arith}
 use denote.Ref.{now}
 use lib.Dec.{eqb}
 use lib.ListN.{length, getD, drop, length-drop}
 use borrow.Author.Needs.{needs}
-use Rattle.laws.proofs.Range.{each-from}
-use Rattle.record.specs.declared.Width.{Width}
-use Rattle.record.specs.declared.Width.the-variants.{B, W}
 use Rattle.rows.specs.Row.{Row}
 use Rattle.rows.specs.Rows.{row74, row76, row78, row7A, row7B, row7C, row7D, row7E, rowEB}
 use Rattle.rows.specs.Pairs.{two}
 use Rattle.rows.specs.Groups.{known, rowsOf, document01}
-use Rattle.rows.specs.Run.{decodeBy, decodeRows, refusal, runRow}
+use Rattle.rows.specs.Run.{decodeRows, refusal, runRow}
 use Rattle.readers.specs.steps.Width.{widthOf}
-use Rattle.by_manual.specs.Changed.{changeAt}
-use Rattle.by_manual.specs.Lists.{isChanged}
-use Rattle.by_manual.specs.Table.{byManual}
 use Rattle.decode_72.specs.steps.Added.{opcodeOf}
 use Rattle.decode.proofs.First.{of-pair}
 use Rattle.m16c_decode.specs.Decoded.{entries}
-use Rattle.m16c_decode.specs.steps.Filled.{Small}
 use Rattle.m16c_decode.proofs.Small.{small, no-room, asks, keeps}
 use Rattle.m16c_decode.specs.steps.Behind.{behindPairs}
-use Rattle.m16c_decode.proofs.TwoBytes.{alone, of-two, of-list, of-none, unchanged, bytesAt, firstAt, secondAt, a-byte, by-document, by-manual, by-changed, few-alike}
+use Rattle.m16c_decode.proofs.TwoBytes.{alone, of-two, of-list, of-none, bytesAt, firstAt, secondAt, a-byte, by-document}
 use Rattle.m16c_decode.proofs.m16c_decode.Statement.{statement}
 use Rattle.m16c_decode.proofs.m16c_decode.Tie as tie
 
@@ -63,50 +56,75 @@ a k = firstAt (image k) (place k)
 abbrev b : Known → ℕ
 b k = secondAt (image k) (place k)
 
+-- what is decoded there, by a row
+abbrev Right : Known → Row → Type 0
+Right k r = runRow r (bs k) ≡ decodeRows (drop (place k) (image k))
+
 -- 7A
-right-7A : (p : tie.After-fill-7A-arg) → let k = p .before .before in runRow (row7A (b k / 16) (b k % 16)) (bs k) ≡ decodeRows (drop (place k) (image k))
+right-7A : (p : tie.After-fill-7A-arg) → let k = p .before .before in Right k (row7A (b k / 16) (b k % 16))
 unfolding known rowsOf
-right-7A p = let k = p .before .before in by-document (image k) (place k) (long k) (alone (a k) (b k) 0x7A (bs k) (row7A (b k / 16) (b k % 16)) (p .before .match .keys1) refl)
+right-7A p =
+    let k = p .before .before in
+    by-document (image k) (place k) (long k) (alone (a k) (b k) 0x7A (bs k) (row7A (b k / 16) (b k % 16)) (p .before .match .keys1) refl)
 
 -- 7B
-right-7B : (p : tie.After-fill-7B-arg) → let k = p .before .before in runRow (row7B (b k / 16) (b k % 16)) (bs k) ≡ decodeRows (drop (place k) (image k))
+right-7B : (p : tie.After-fill-7B-arg) → let k = p .before .before in Right k (row7B (b k / 16) (b k % 16))
 unfolding known rowsOf
-right-7B p = let k = p .before .before in by-document (image k) (place k) (long k) (alone (a k) (b k) 0x7B (bs k) (row7B (b k / 16) (b k % 16)) (p .before .match .keys2) refl)
+right-7B p =
+    let k = p .before .before in
+    by-document (image k) (place k) (long k) (alone (a k) (b k) 0x7B (bs k) (row7B (b k / 16) (b k % 16)) (p .before .match .keys2) refl)
 
 -- 7C
-right-7C : (p : tie.After-fill-7C-arg) → let k = p .before .before in runRow (row7C (b k / 16) (b k % 16)) (bs k) ≡ decodeRows (drop (place k) (image k))
+right-7C : (p : tie.After-fill-7C-arg) → let k = p .before .before in Right k (row7C (b k / 16) (b k % 16))
 unfolding known rowsOf
-right-7C p = let k = p .before .before in by-document (image k) (place k) (long k) (alone (a k) (b k) 0x7C (bs k) (row7C (b k / 16) (b k % 16)) (p .before .match .keys3) refl)
+right-7C p =
+    let k = p .before .before in
+    by-document (image k) (place k) (long k) (alone (a k) (b k) 0x7C (bs k) (row7C (b k / 16) (b k % 16)) (p .before .match .keys3) refl)
 
 -- 7D
-right-7D : (p : tie.After-fill-7D-arg) → let k = p .before .before in runRow (row7D (b k / 16) (b k % 16)) (bs k) ≡ decodeRows (drop (place k) (image k))
+right-7D : (p : tie.After-fill-7D-arg) → let k = p .before .before in Right k (row7D (b k / 16) (b k % 16))
 unfolding known rowsOf
-right-7D p = let k = p .before .before in by-document (image k) (place k) (long k) (alone (a k) (b k) 0x7D (bs k) (row7D (b k / 16) (b k % 16)) (p .before .match .keys4) refl)
+right-7D p =
+    let k = p .before .before in
+    by-document (image k) (place k) (long k) (alone (a k) (b k) 0x7D (bs k) (row7D (b k / 16) (b k % 16)) (p .before .match .keys4) refl)
 
 -- 7E
-right-7E : (p : tie.After-fill-7E-arg) → let k = p .before .before in runRow (row7E (b k / 16) (b k % 16)) (bs k) ≡ decodeRows (drop (place k) (image k))
+right-7E : (p : tie.After-fill-7E-arg) → let k = p .before .before in Right k (row7E (b k / 16) (b k % 16))
 unfolding known rowsOf
-right-7E p = let k = p .before .before in by-document (image k) (place k) (long k) (alone (a k) (b k) 0x7E (bs k) (row7E (b k / 16) (b k % 16)) (p .before .match .keys5) refl)
+right-7E p =
+    let k = p .before .before in
+    by-document (image k) (place k) (long k) (alone (a k) (b k) 0x7E (bs k) (row7E (b k / 16) (b k % 16)) (p .before .match .keys5) refl)
 
 -- EB
-right-EB : (p : tie.After-fill-EB-arg) → let k = p .before .before in runRow (rowEB (b k / 16) (b k % 16)) (bs k) ≡ decodeRows (drop (place k) (image k))
+right-EB : (p : tie.After-fill-EB-arg) → let k = p .before .before in Right k (rowEB (b k / 16) (b k % 16))
 unfolding known rowsOf
-right-EB p = let k = p .before .before in by-document (image k) (place k) (long k) (alone (a k) (b k) 0xEB (bs k) (rowEB (b k / 16) (b k % 16)) (p .before .match .keys6) refl)
+right-EB p =
+    let k = p .before .before in
+    by-document (image k) (place k) (long k) (alone (a k) (b k) 0xEB (bs k) (rowEB (b k / 16) (b k % 16)) (p .before .match .keys6) refl)
 
 -- 74 and 75
-right-74 : (p : tie.After-fill-74-arg) → let k = p .before .before .before .before in runRow (row74 (widthOf (eqb (a k % 2) 0)) (b k / 16) (b k % 16)) (bs k) ≡ decodeRows (drop (place k) (image k))
+right-74 : (p : tie.After-fill-74-arg) → let k = p .before .before .before .before in Right k (row74 (widthOf (eqb (a k % 2) 0)) (b k / 16) (b k % 16))
 unfolding known rowsOf
-right-74 p = let k = p .before .before .before .before in by-document (image k) (place k) (long k) (of-pair (λ x. document01 .rowAt x (b k)) (bs k) (λ w. row74 w (b k / 16) (b k % 16)) 0x74 ((tt, refl), refl) (a k) (p .before .before .if4 .left) (p .before .if5 .taken))
+right-74 p =
+    let k = p .before .before .before .before in
+    by-document (image k) (place k) (long k)
+    (of-pair (λ x. document01 .rowAt x (b k)) (bs k) (λ w. row74 w (b k / 16) (b k % 16)) 0x74 ((tt, refl), refl) (a k) (p .before .before .if4 .left) (p .before .if5 .taken))
 
 -- 76 and 77
-right-76 : (p : tie.After-fill-76-arg) → let k = p .before .before .before .before .before in runRow (row76 (widthOf (eqb (a k % 2) 0)) (b k / 16) (b k % 16)) (bs k) ≡ decodeRows (drop (place k) (image k))
+right-76 : (p : tie.After-fill-76-arg) → let k = p .before .before .before .before .before in Right k (row76 (widthOf (eqb (a k % 2) 0)) (b k / 16) (b k % 16))
 unfolding known rowsOf
-right-76 p = let k = p .before .before .before .before .before in by-document (image k) (place k) (long k) (of-pair (λ x. document01 .rowAt x (b k)) (bs k) (λ w. row76 w (b k / 16) (b k % 16)) 0x76 ((tt, refl), refl) (a k) (p .before .before .if5 .left) (p .before .if6 .taken))
+right-76 p =
+    let k = p .before .before .before .before .before in
+    by-document (image k) (place k) (long k)
+    (of-pair (λ x. document01 .rowAt x (b k)) (bs k) (λ w. row76 w (b k / 16) (b k % 16)) 0x76 ((tt, refl), refl) (a k) (p .before .before .if5 .left) (p .before .if6 .taken))
 
 -- 78 and 79
-right-78 : (p : tie.After-fill-78-arg) → let k = p .before .before .before .before .before .before in runRow (row78 (widthOf (eqb (a k % 2) 0)) (b k / 16) (b k % 16)) (bs k) ≡ decodeRows (drop (place k) (image k))
+right-78 : (p : tie.After-fill-78-arg) → let k = p .before .before .before .before .before .before in Right k (row78 (widthOf (eqb (a k % 2) 0)) (b k / 16) (b k % 16))
 unfolding known rowsOf
-right-78 p = let k = p .before .before .before .before .before .before in by-document (image k) (place k) (long k) (of-pair (λ x. document01 .rowAt x (b k)) (bs k) (λ w. row78 w (b k / 16) (b k % 16)) 0x78 ((tt, refl), refl) (a k) (p .before .before .if6 .left) (p .before .if7 .taken))
+right-78 p =
+    let k = p .before .before .before .before .before .before in
+    by-document (image k) (place k) (long k)
+    (of-pair (λ x. document01 .rowAt x (b k)) (bs k) (λ w. row78 w (b k / 16) (b k % 16)) 0x78 ((tt, refl), refl) (a k) (p .before .before .if6 .left) (p .before .if7 .taken))
 
 -- a first byte of none of these: below the pairs, or past them
 abbrev Other : Known → Type 0
@@ -116,7 +134,7 @@ right-list : (p : tie.After-fill-list-arg) → let k = p .before .before .before
 right-list p = let k = p .before .before .before .before in
     by-document (image k) (place k) (long k) (of-list (a k) (b k) (bs k) (a-byte (image k) (place k) (bytes k) 0) (p .before .before .before .match .rest) (⊎-elim (λ w. inl (w .taken)) (λ w. inr (w .3 .left)) (p .before .before .if4 .came)) (p .before .if8 .taken))
 
-right-two : (p : tie.After-fill-two-arg) → let k = p .before .before .before .before .before .before in runRow (two (opcodeOf (a k)) (widthOf (eqb (a k % 2) 0)) (b k / 16) (b k % 16)) (bs k) ≡ decodeRows (drop (place k) (image k))
+right-two : (p : tie.After-fill-two-arg) → let k = p .before .before .before .before .before .before in Right k (two (opcodeOf (a k)) (widthOf (eqb (a k % 2) 0)) (b k / 16) (b k % 16))
 right-two p = let k = p .before .before .before .before .before .before in
     by-document (image k) (place k) (long k) (of-two (a k) (b k) (bs k) (a-byte (image k) (place k) (bytes k) 0) (p .before .before .before .before .before .match .rest) (⊎-elim (λ w. inl (w .taken)) (λ w. inr (w .3 .left)) (p .before .before .before .before .if4 .came)) (sym (p .before .before .is-two .ensures) ∙ p .before .if9 .taken))
 
