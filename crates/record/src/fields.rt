@@ -5,7 +5,7 @@ ghost use Rattle.record.specs.Same.{same_name, field_of, shared, field_at, value
 use crate::{Operand, Record, numbers};
 
 // No number; `imm_wide`; `dispabs`; `first`.
-#[derive(Drop)]
+#[derive(Clone, Copy)]
 pub enum Field {
     Nowhere,
     Wide,
@@ -13,7 +13,7 @@ pub enum Field {
     Early,
 }
 
-#[derive(Drop)]
+#[derive(Clone, Copy)]
 pub struct Numbers {
     pub number0: u32,
     pub number1: u32,

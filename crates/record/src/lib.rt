@@ -1,13 +1,15 @@
 // What an instruction is, and what a decoder answers: names, numbers and nothing else.
 // Names are spelled as in the Rust and in document 01. `NOP`, `None` and `Nothing` stand first: they are what the blank record holds.
 
+#![tactic(auto)]
+
 pub mod numbers; // the number of each name
 pub mod names; // the name of each number
 pub mod fields; // where the number of each operand is
 pub mod signed; // the number of each operand as it is counted
 pub mod refusal; // what a function returns
 
-#[derive(Drop)]
+#[derive(Clone, Copy)]
 pub enum Opcode {
     NOP,
     ABS,
@@ -110,7 +112,7 @@ pub enum Opcode {
 }
 
 // The size that an opcode carries, `.B`, `.W` or `.L` in the listing.
-#[derive(Drop)]
+#[derive(Clone, Copy)]
 pub enum Size {
     None,
     B,
@@ -119,14 +121,14 @@ pub enum Size {
 }
 
 // The width that decoding starts with, by the first byte.
-#[derive(Drop)]
+#[derive(Clone, Copy)]
 pub enum Width {
     None,
     B,
     W,
 }
 
-#[derive(Drop)]
+#[derive(Clone, Copy)]
 pub enum Operand {
     Nothing,
     Imm4,
@@ -188,14 +190,14 @@ pub enum Operand {
 }
 
 // Where a number stands in the bytes of an instruction, and how many bytes it has there. Both are 0 if none behind the second was read for it.
-#[derive(Drop)]
+#[derive(Clone, Copy)]
 pub struct Part {
     pub offset: u8,
     pub width: u8,
 }
 
 // The part of each number that a record holds.
-#[derive(Drop)]
+#[derive(Clone, Copy)]
 pub struct Parts {
     pub first: Part,
     pub dispabs: Part,
@@ -204,7 +206,7 @@ pub struct Parts {
 
 // The Rust's `operands: [OperandSpec; 3]` are three fields. (What is one byte stands first, and `op2`, which no row has, behind the rest of it:
 // so the compiled decoder takes some instructions fewer, and with `parts` first in `Seen`.)
-#[derive(Drop)]
+#[derive(Clone, Copy)]
 pub struct Record {
     pub opcode: Opcode,
     pub size: Size,
@@ -258,7 +260,7 @@ pub const BLANK: Record = Record {
 };
 
 // All that counts of a record: two records are the same instruction if these agree.
-#[derive(Drop)]
+#[derive(Clone, Copy)]
 pub struct Key {
     pub opcode: Opcode,
     pub size: Size,
@@ -272,7 +274,7 @@ pub struct Key {
 }
 
 // Refusal 0 and the record, or a refusal's number and the blank record; and the bytes taken, either way.
-#[derive(Drop)]
+#[derive(Clone, Copy)]
 pub struct Answer {
     pub inst: Record,
     pub taken: usize,
@@ -281,7 +283,7 @@ pub struct Answer {
 
 // What a row's reads pass on from one to the next: the numbers read so far, whether imm_wide lost bits, where the numbers stand, and the bytes
 // taken.
-#[derive(Drop)]
+#[derive(Clone, Copy)]
 pub struct Seen {
     pub parts: Parts,
     pub imm_wide: u32,
@@ -292,7 +294,7 @@ pub struct Seen {
 }
 
 // A read went on, or too few bytes were left.
-#[derive(Drop)]
+#[derive(Clone, Copy)]
 pub enum Got {
     On(Seen),
     Short,

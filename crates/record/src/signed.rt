@@ -6,7 +6,7 @@ use crate::fields::Field;
 use crate::{Operand, Record, fields};
 
 // A number and the field that holds it; nowhere and 0 if there is none.
-#[derive(Drop)]
+#[derive(Clone, Copy)]
 pub struct Number {
     pub field: Field,
     pub value: i64,

@@ -15,7 +15,7 @@ use Rattle.record.specs.declared.fields.Field.TheVariants.{Nowhere as nowhere, W
 use Rattle.record.specs.Parts.{part, no_part, no_parts, part_of, Inside, Within}
 use Rattle.rows.specs.Row.{disp, imm, imm20, Read, num, cond, stop, Row}
 use Rattle.rows.specs.Run.{disp_at, imm_at}
-use Rattle.rows.specs.Spans.{Source, code, read, twenty, Spans, follow, spans_of, disp_next, imm_next, cond_next, part_in, parts_in}
+use Rattle.rows.specs.Spans.{Source, read, twenty, Spans, follow, spans_of, disp_next, imm_next, cond_next, part_in, parts_in}
 use Rattle.rows.specs.Parts.{Laid}
 
 -- a part of the first n bytes, but for the first two

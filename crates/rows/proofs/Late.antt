@@ -20,7 +20,7 @@ use Rattle.rows.specs.Row.{Row, Table}
 use Rattle.rows.specs.Groups.{groups, known, rows_of, document01}
 use Rattle.rows.specs.Fate.{reach, smooth}
 use Rattle.rows.specs.All.{every_first}
-use Rattle.rows.specs.Run.{refusal, run_row, begun, decode_by}
+use Rattle.rows.specs.Run.{run_row, begun, decode_by}
 use Rattle.rows.proofs.All.{every_first_lem}
 use Rattle.rows.proofs.Along.{Events, along}
 use Rattle.rows.proofs.Refusals.{outside}

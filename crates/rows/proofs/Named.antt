@@ -10,7 +10,7 @@ use Rattle.laws.specs.Choice.{pick, either}
 use Rattle.laws.proofs.Agree.{agree}
 use Rattle.manual.specs.RegisterList.{pushed, popped, named}
 use Rattle.rows.specs.All.{every_code}
-use Rattle.rows.specs.Groups.{known, rows_of, document01}
+use Rattle.rows.specs.Groups.{rows_of, document01}
 use Rattle.rows.specs.RegisterList.{registers_in}
 use Rattle.rows.specs.Run.{decode_rows}
 use Rattle.rows.proofs.All.{every_code_lem}

@@ -116,10 +116,10 @@ module _ (t : Table) (f : Field) (a b : ℕ) (bs cs : List ℕ) (z : (decode_by 
       (λ k l. differ.elsewhere (p.offset + k) (λ v. n ((laid_row w).apart f g (p.offset + k) v (omega arith, omega arith))))
 
   wide_same : (f ≡ wide → ⊥) → s.imm_wide ≡ r.imm_wide
-  wide_same n = is.imm_wide ∙ wide_kept _ _ w.number (spans_of w).wide (other_number wide n) ∙ sym was.made.imm_wide
+  wide_same n = is.imm_wide ∙ wide_kept (a ∷ b ∷ bs) (a ∷ b ∷ cs) w.number (spans_of w).wide (other_number wide n) ∙ sym was.made.imm_wide
 
   dropped_same : (f ≡ wide → ⊥) → s.dropped ≡ r.dropped
-  dropped_same n = is.dropped ∙ dropped_kept _ _ (spans_of w).wide (other_number wide n) ∙ sym was.made.dropped
+  dropped_same n = is.dropped ∙ dropped_kept (a ∷ b ∷ bs) (a ∷ b ∷ cs) (spans_of w).wide (other_number wide n) ∙ sym was.made.dropped
 
   short_same : (f ≡ short → ⊥) → s.dispabs ≡ r.dispabs
   short_same n = is.dispabs ∙ other_number short n ∙ sym was.made.dispabs

@@ -22,9 +22,9 @@ use Rattle.rows.specs.Codes.{cond_of}
 use Rattle.rows.specs.Fate.{bytes_of}
 use Rattle.rows.specs.Parts.{DifferIn}
 use Rattle.rows.specs.Row.{Num, disp, imm, imm20, Read, num, cond, stop, Condition, named, unnamed, Face}
-use Rattle.rows.specs.Run.{reading, read_disp, read_into, and_then, judged, past, renamed, refusal, run, bytes}
+use Rattle.rows.specs.Run.{reading, read_disp, read_into, and_then, judged, past, renamed, run}
 use Rattle.rows.specs.Spans.{Spans, follow, disp_next, cond_next, parts_in}
-use Rattle.rows.proofs.Laid.{Standing, imm_next_lem, cond_next_lem, after_disp, begins, stays_free, condition_free}
+use Rattle.rows.proofs.Laid.{Standing, imm_next_lem, cond_next_lem, after_disp, stays_free, condition_free}
 
 -- the same refusal or the same opcode, after as many bytes
 pub record Alike (x y : Answer) : Type 0 where

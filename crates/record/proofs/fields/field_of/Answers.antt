@@ -9,8 +9,7 @@ use Rattle.record.specs.declared.fields.Field.TheVariants.{Nowhere as nowhere, W
 use Rattle.record.specs.Same.{same_name, among, wide_names, short_names, field_of}
 use Rattle.record.proofs.Apart.{told}
 use Rattle.record.proofs.Arms.{keys, others, in_arm}
-use Rattle.record.proofs.fields.field_of.Statement.{statement}
-use Rattle.record.proofs.fields.field_of.Tie as tie
+use Rattle.record.proofs.fields.field_of.Goals as goal
 
 abbrev number : Field → ℕ
 number nowhere = 0
@@ -30,17 +29,14 @@ at_number early = refl
 apart : (f g : Field) → number f ≡ number g → f ≡ g
 apart = told number at at_number
 
-returns : tie.Need-returns
+pub returns-in-Imm4 : goal.returns-in-Imm4
 unfolding same_name among field_of
-returns c = in_arm number apart (λ o. wide) field_of (keys wide_names) tt c.before.args.o c.match.keys1
+returns-in-Imm4 c = in_arm number apart (λ o. wide) field_of (keys wide_names) tt c.args.o c.in-Imm4.in-Imm4-own.keys1
 
-returns-2 : tie.Need-returns-2
+pub returns-in-Disp8_A0 : goal.returns-in-Disp8_A0
 unfolding same_name among field_of
-returns-2 c = in_arm number apart (λ o. short) field_of (keys short_names) tt c.before.args.o c.match.keys2
+returns-in-Disp8_A0 c = in_arm number apart (λ o. short) field_of (keys short_names) tt c.args.o c.in-Disp8_A0.in-Disp8_A0-own.keys2
 
-returns-3 : tie.Need-returns-3
+pub returns-in_default : goal.returns-in_default
 unfolding same_name among field_of
-returns-3 c = in_arm number apart (λ o. nowhere) field_of (others (wide_names ++ short_names)) tt c.before.args.o c.match.keys3
-
-pub field_of_spec : {M : Type 1} → statement M
-field_of_spec = tie.close (tie.spec returns returns-2 returns-3)
+returns-in_default c = in_arm number apart (λ o. nowhere) field_of (others (wide_names ++ short_names)) tt c.args.o c.in_default.in_default-own.keys3
