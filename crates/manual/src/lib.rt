@@ -1,3 +1,3 @@
-#![tactic(auto)]
-
 // Definitions only: what the maker's manual says, in specs/.
+
+#![tactic(auto)]

@@ -1,3 +1,3 @@
-#![tactic(auto)]
-
 // Definitions and laws only, in specs/ and proofs/.
+
+#![tactic(auto)]
