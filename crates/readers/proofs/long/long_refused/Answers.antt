@@ -9,4 +9,4 @@ use Rattle.readers.proofs.long.long_refused.Goals as goal
 
 pub returns : goal.returns
 unfolding no_pair
-returns c = c.has.ensures ∙ agree (holds 0x2C) no_pair 256 refl c.args.code (search rules)
+returns c = c.has.ensures ∙ agree (holds _) no_pair 256 refl c.args.code (search rules)
