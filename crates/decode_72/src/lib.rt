@@ -1,4 +1,7 @@
 // The groups of request A7, which the Rust has in its first-byte table: what stands behind a first byte, by the second byte b.
+
+#![tactic(auto)]
+
 pub mod two; // ten pairs of first bytes, 72 to C1
 pub mod list; // EC and ED
 
@@ -12,6 +15,7 @@ use readers::answer;
 use record::{Answer, refusal};
 
 // 72 and 73; behind 7E, to C1, the first two of each eight, of which 7F is none.
+#[tactic(auto, unfolding(crate::specs::steps::Added::is_two))]
 pub fn is_two(a: u8) -> bool
     ensures { result ≡ is_two a }
 {
@@ -25,6 +29,7 @@ pub fn is_two(a: u8) -> bool
 }
 
 // EC and ED.
+#[tactic(auto, unfolding(crate::specs::steps::Added::is_list))]
 pub fn is_list(a: u8) -> bool
     ensures { result ≡ is_list a }
 {
@@ -32,6 +37,7 @@ pub fn is_list(a: u8) -> bool
 }
 
 // A first byte of one of these groups.
+#[tactic(auto, unfolding(crate::specs::steps::Added::is_added))]
 pub fn is_added(a: u8) -> bool
     ensures { result ≡ is_added a }
 {

@@ -1,4 +1,7 @@
 // The Rust's readers: the name that a code gives, and the bytes that it reads behind those taken.
+
+#![tactic(auto)]
+
 pub mod answer; // the record, made once, and refusals
 pub mod numbers; // read_imm
 pub mod general; // Operand_RegDerefDispAbs

@@ -45,6 +45,7 @@ pub fn long_refused(code: u8) -> bool
 }
 
 // J(code): 20 bits at C and D, the rest is as G.
+#[tactic(auto, unfolding(rows::specs::Codes::num_J))]
 pub fn long(bs: &[u8], s: Seen, code: u8) -> Got
     ensures { result ≡ reading_in (num_J code) bs.now s }
 {
