@@ -1,10 +1,14 @@
 // A record from the first twelve numbers that a program passes in, in the order that m16c_decode fills.
+
+#![tactic(auto)]
+
 ghost use Rattle.std.specs.Prelude.{◌≡◌, ◌≤◌, ◌<◌, length, get_or};
 ghost use Rattle.from_numbers.specs.Made.{valid, made_of, record_of};
 
 use record::{Record, names};
 
 // Whether the first twelve numbers make a record.
+#[tactic(auto, using(crate::proofs::Valid::refused, crate::proofs::Valid::accepted))]
 pub fn is_record(numbers: &[u32]) -> bool
     ensures { result ≡ valid numbers.now }
 {
@@ -61,6 +65,7 @@ fn made_of(numbers: &[u32]) -> Record
 }
 
 // The record that numbers make; of numbers that make none, the blank record.
+#[tactic(auto, using(crate::proofs::Valid::bounded))]
 pub fn record_of(numbers: &[u32]) -> Record
     ensures { result ≡ record_of numbers.now }
 {

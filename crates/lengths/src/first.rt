@@ -2,6 +2,7 @@
 ghost use Rattle.std.specs.Prelude.{◌≡◌};
 ghost use Rattle.lengths.specs.steps.Entry.{place};
 
+#[tactic(auto, unfolding(crate::specs::steps::Entry::place))]
 pub(crate) fn place_of(a: u8) -> usize
     ensures { result ≡ place a }
 {

@@ -1,4 +1,7 @@
 // The length of an instruction from its first two bytes, by a table of all codes.
+
+#![tactic(auto)]
+
 mod first;
 mod table;
 
@@ -10,13 +13,14 @@ ghost use Rattle.lengths.specs.steps.Entry.{value_of, refusal_in, length_in, too
 use record::refusal;
 
 // 0 and a length, or a refusal and 0.
-#[derive(Drop)]
+#[derive(Clone, Copy)]
 pub struct Length {
     pub refusal: u32,
     pub length: usize,
 }
 
 // What fewer than two bytes are refused with, 4 before 1. Of more the first counts alone.
+#[tactic(auto, using(crate::proofs::Asking::of_no_byte))]
 pub fn too_few(bytes: &[u8]) -> u8
     ensures { result ≡ too_few bytes.now }
 {
@@ -60,6 +64,7 @@ fn refused(e: u8) -> Length
 
 // The length that every accepted string has that begins with the first two bytes; or, if none is accepted, what long enough ones are
 // refused with. 4 for a first byte outside, then 1 for fewer than two bytes.
+#[tactic(auto, using(crate::proofs::Asking::few_right, crate::proofs::Asking::outside_right, crate::proofs::Asking::entry_told, crate::proofs::Asking::past_unknown, crate::proofs::Asking::inside_known, crate::proofs::Place::below))]
 pub fn length_of(bytes: &[u8]) -> Length
     ensures { LengthOf document01 bytes.now result.refusal result.length }
 {

@@ -75,6 +75,7 @@ const LENGTHS: [[u8; 256]; 13] = [
     4444444455556666444444445555666644444444555566664444444455556666",
 ];
 
+#[tactic(auto, unfolding(crate::specs::steps::Entry::character, crate::specs::steps::Table::table))]
 pub(crate) fn character(place: usize, second: usize) -> u8
     requires { (place < rows) × (second < 256) }
     ensures { result ≡ character place second }

@@ -1,4 +1,7 @@
 // The length from two bytes for C, a crate of its own: by the table in words, since a constant table is copied before it is read.
+
+#![tactic(auto)]
+
 mod words;
 
 ghost use Rattle.std.specs.Prelude.{◌≡◌};
@@ -9,6 +12,7 @@ ghost use Rattle.lengths.specs.steps.Entry.{entry_of};
 use record::refusal;
 
 // Of a first byte outside 0, which is no entry of the table.
+#[tactic(auto, using(crate::proofs::Fields::short, crate::proofs::Fields::each_field))]
 fn entry_of(first: u8, second: u8) -> u32
     ensures { result ≡ entry_of first second }
 {
@@ -27,6 +31,7 @@ fn refuse(e: u8, length: &mut usize) -> u32
 // The length that every instruction has that m16c_decode accepts and that begins with the first two bytes; more bytes do not count, and by
 // the manual some lengths are others. Returns 0 and leaves the length; or a refusal and 0: 4 for a first byte outside, then 1 for fewer than
 // two bytes, else 2 or 3 where no bytes behind these two make an instruction.
+#[tactic(auto, using(lengths::proofs::Asking::few_right, lengths::proofs::Asking::outside_right, lengths::proofs::Asking::entry_told, lengths::proofs::Asking::zero_unknown, lengths::proofs::Asking::some_known, lengths::proofs::Asking::of_known))]
 #[unsafe(no_mangle)]
 pub extern "C" fn m16c_length(bytes: &[u8], length: &mut usize) -> u32
     ensures { LengthOf document01 bytes.now result length.new }

@@ -3,6 +3,7 @@ ghost use Rattle.std.specs.Prelude.{◌≡◌};
 ghost use Rattle.m16c_length.specs.steps.Packed.{word_at, shift_of};
 
 // Of a second byte, an entry of five bits for each row, that of the first lowest; the last has four bits, and leaves the highest free.
+#[tactic(auto, unfolding(crate::specs::steps::Packed::word_at, lengths::specs::steps::Table::table))]
 pub(crate) fn word_of(second: u8) -> u64
     ensures { result ≡ word_at second }
 {
@@ -267,6 +268,7 @@ pub(crate) fn word_of(second: u8) -> u64
 }
 
 // Of a first byte, the lowest bit of its row's entry; of one outside the highest bit.
+#[tactic(auto, unfolding(crate::specs::steps::Packed::shift_of, rows::specs::Groups::known, lengths::specs::steps::Entry::place))]
 pub(crate) fn shift_of(first: u8) -> u8
     ensures { result ≡ shift_of first }
 {

@@ -1,4 +1,7 @@
 // An operand's number for C, a crate of its own: the functions below are inlined into it only where they have one caller.
+
+#![tactic(auto)]
+
 ghost use Rattle.std.specs.Prelude.{◌≡◌};
 ghost use Rattle.m16c_operand_number.specs.Told.{refusal_of, TellsNumber};
 
