@@ -9,7 +9,7 @@ ghost use Rattle.encode_choice.specs.steps.NameSet.{AreSets};
 
 use record::{Opcode, Operand};
 
-#[derive(Drop)]
+#[derive(Clone, Copy)]
 pub enum Form {
     Bit,
     FlagOrBit,
@@ -47,7 +47,7 @@ pub enum Form {
     Unused,
 }
 
-#[derive(Drop)]
+#[derive(Clone, Copy)]
 pub struct Sets(pub u64, pub u64);
 
 pub fn code_of(o: Operand) -> u8
