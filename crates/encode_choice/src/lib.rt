@@ -35,6 +35,7 @@ pub struct Code {
     pub second: u64,
 }
 
+#[tactic(auto, unfolding(crate::specs::steps::Choose::choose_by))]
 fn choose_by(o: Opcode, q: Asked) -> Code
     ensures { result ≡ coded (choose_by o q) }
 {
@@ -133,6 +134,7 @@ fn choose_by(o: Opcode, q: Asked) -> Code
 }
 
 // The code for what is asked, if these are names that the opcode has in an unmarked row.
+#[tactic(auto, unfolding(crate::specs::steps::Choose::choose_named))]
 pub fn choose(o: Opcode, q: Asked) -> Code
     ensures { result ≡ coded (choice.choose_named o q) }
 {
