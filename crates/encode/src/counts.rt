@@ -4,7 +4,7 @@ ghost use Rattle.encode.specs.steps.Slots.{size_of};
 
 use record::Operand;
 
-#[derive(Drop)]
+#[derive(Clone, Copy)]
 pub(crate) struct Slot {
     pub count: u8,
     pub limit: u32,

@@ -1,4 +1,7 @@
 // The encoder: the shortest bytes that encode a record.
+
+#![tactic(auto)]
+
 mod key; // what counts of a record
 mod counts; // the bytes that a name asks for
 mod condition; // the byte of a condition
@@ -19,7 +22,7 @@ use encode_choice::asks;
 use record::{Operand, Record, fields, refusal};
 
 // A code, and the numbers that stand behind it, each in so many bytes.
-#[derive(Drop)]
+#[derive(Clone, Copy)]
 pub struct Plan {
     pub first: u8,
     pub second: u8,
@@ -30,7 +33,7 @@ pub struct Plan {
 }
 
 // Refusal 0 and the length written, or 5 or 6 and 0.
-#[derive(Drop)]
+#[derive(Clone, Copy)]
 pub struct Encoded {
     pub refusal: u8,
     pub length: usize,

@@ -1,4 +1,7 @@
 // The choice of a code by each reading: what the rows that request A9 changes add to document 01's.
+
+#![tactic(auto)]
+
 mod sets; // the names that go with an opcode in a changed row
 mod codes; // the codes of the changed rows
 
@@ -10,7 +13,7 @@ use encode_choice::{Asked, Code};
 use record::Opcode;
 
 // A code, and whether it is all: then operand 0's number is part of it, and no bytes follow.
-#[derive(Drop)]
+#[derive(Clone, Copy)]
 pub struct Chosen {
     pub code: Code,
     pub whole: bool,

@@ -9,7 +9,7 @@ use encode_choice::{Asked, forms};
 use record::{Opcode, Width};
 
 // Opcodes whose changed rows have the same names and size. (Found by its kind, a set has a table of a few entries; by the opcode, of a hundred.)
-#[derive(Drop)]
+#[derive(Clone, Copy)]
 pub enum Kind {
     Alone,
     Product,

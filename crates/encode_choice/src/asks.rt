@@ -62,6 +62,7 @@ fn whole_number(k: Key) -> u32
 }
 
 // No row of MOVA or PUSHA names Deref: there a displacement of 0 is not dropped.
+#[tactic(auto, unfolding(crate::specs::steps::Choose::drops_zero))]
 fn drops_zero(o: Opcode) -> bool
     ensures { result ≡ choice.drops_zero o }
 {

@@ -1,4 +1,7 @@
 // The direct choice of a code that encodes a record: one clause an opcode.
+
+#![tactic(auto)]
+
 pub mod names; // what a name is, by its number
 pub mod asks; // what the choice asks of a key
 pub mod shapes; // codes that several opcodes have in common
@@ -16,7 +19,7 @@ use record::{Opcode, Operand, Size, Width};
 
 // What is asked of a key beside its opcode: size and width, the names of the row that would encode it in the fewest bytes, and a
 // number that is part of the code.
-#[derive(Drop)]
+#[derive(Clone, Copy)]
 pub struct Asked {
     pub size: Size,
     pub width: Width,
@@ -26,12 +29,13 @@ pub struct Asked {
 }
 
 // The two bytes of a code; no code is 0, 0.
-#[derive(Drop)]
+#[derive(Clone, Copy)]
 pub struct Code {
     pub first: u8,
     pub second: u64,
 }
 
+#[tactic(auto, unfolding(crate::specs::steps::Choose::choose_by))]
 fn choose_by(o: Opcode, q: Asked) -> Code
     ensures { result ≡ coded (choose_by o q) }
 {
@@ -130,6 +134,7 @@ fn choose_by(o: Opcode, q: Asked) -> Code
 }
 
 // The code for what is asked, if these are names that the opcode has in an unmarked row.
+#[tactic(auto, unfolding(crate::specs::steps::Choose::choose_named))]
 pub fn choose(o: Opcode, q: Asked) -> Code
     ensures { result ≡ coded (choice.choose_named o q) }
 {

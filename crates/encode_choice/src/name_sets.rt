@@ -9,7 +9,7 @@ ghost use Rattle.encode_choice.specs.steps.NameSet.{AreSets};
 
 use record::{Opcode, Operand};
 
-#[derive(Drop)]
+#[derive(Clone, Copy)]
 pub enum Form {
     Bit,
     FlagOrBit,
@@ -47,9 +47,10 @@ pub enum Form {
     Unused,
 }
 
-#[derive(Drop)]
+#[derive(Clone, Copy)]
 pub struct Sets(pub u64, pub u64);
 
+#[tactic(auto, unfolding(crate::specs::steps::Choose::place, record::specs::Same::same_name))]
 pub fn code_of(o: Operand) -> u8
     ensures { (result ≡ code_of o) × (result ≤ 15) }
 {
@@ -114,6 +115,7 @@ pub fn code_of(o: Operand) -> u8
     }
 }
 
+#[tactic(auto, unfolding(crate::specs::steps::Forms::form_of))]
 pub(crate) fn form_of(o: Opcode) -> Form
     ensures { result ≡ form_of o }
 {
@@ -261,6 +263,7 @@ fn number_of(f: Form) -> u8
     }
 }
 
+#[tactic(auto, unfolding(crate::specs::steps::NameSet::bit_set))]
 pub(crate) fn at_b(f: Form) -> Sets
     ensures { AreSets result.0 result.1 f B }
 {
@@ -302,6 +305,7 @@ pub(crate) fn at_b(f: Form) -> Sets
     }
 }
 
+#[tactic(auto, unfolding(crate::specs::steps::NameSet::bit_set))]
 pub(crate) fn at_w(f: Form) -> Sets
     ensures { AreSets result.0 result.1 f W }
 {
@@ -343,6 +347,7 @@ pub(crate) fn at_w(f: Form) -> Sets
     }
 }
 
+#[tactic(auto, unfolding(crate::specs::steps::NameSet::bit_set))]
 pub(crate) fn at_none(f: Form) -> Sets
     ensures { AreSets result.0 result.1 f None }
 {

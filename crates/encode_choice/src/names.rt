@@ -18,6 +18,7 @@ pub fn is_wide(o: Operand) -> bool
 }
 
 // Its number is part of the code: at no width, Imm4, Imm8 and RegList.
+#[tactic(auto, unfolding(crate::specs::steps::Coarse::whole))]
 pub fn is_whole(w: Width, o: Operand) -> bool
     ensures { result ≡ whole w o }
 {

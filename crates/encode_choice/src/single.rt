@@ -1,4 +1,6 @@
 // Codes that one opcode has, or two.
+#![tactic(auto, unfolding(crate::specs::steps::Choose::choose_by))]
+
 ghost use Rattle.std.specs.Prelude.{◌≡◌, ◌≤◌};
 ghost use Rattle.record.specs.declared.Opcode.TheVariants.{ADD, EXTS, INT, LDC, LDE, MOV, MOVA, PUSHA, STC, STE};
 ghost use Rattle.encode_rules.specs.steps.Direct.{code};

@@ -17,7 +17,7 @@ use Rattle.record.specs.Same.{same_name, field_of, shared, field0, field1, value
 use Rattle.record.proofs.Apart.{opcodes_apart, sizes_apart, widths_apart, operands_apart}
 use Rattle.rows.specs.Row.{Row}
 use Rattle.rows.specs.Run.{begun}
-use Rattle.encode_rules.specs.steps.Search.{disps, imms, conds, spell, other, live, aim, plain, shorts, wides, wide_for, disp_for, first_for}
+use Rattle.encode_rules.specs.steps.Search.{imms, conds, spell, other, live, aim, plain, shorts, wides, wide_for, disp_for, first_for}
 use Rattle.encode_rules.specs.steps.Can.{exact, fits, named, can}
 use Rattle.encode_rules.proofs.Bools.{both_true, both_so}
 use Rattle.encode_rules.proofs.Runs.{Runs}

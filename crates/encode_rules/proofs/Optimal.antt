@@ -21,7 +21,7 @@ use Rattle.rows.specs.Row.{disp, imm, imm20, Read, num, cond, stop, Table}
 use Rattle.rows.specs.Run.{run_row, begun, decode_by, refusal}
 use Rattle.encode_rules.specs.steps.Digits.{digits}
 use Rattle.encode_rules.specs.Says.{Ahead, Says, Best, Found, bytes, none, Right}
-use Rattle.encode_rules.specs.steps.Search.{disps, imms, spell, aim, other, plain, alike, agrees, aheadb, better, bytes_by, least_of, try, best}
+use Rattle.encode_rules.specs.steps.Search.{spell, aim, other, plain, alike, agrees, aheadb, better, bytes_by, least_of, try, best}
 use Rattle.encode_rules.proofs.Bools.{both_true, both_so}
 use Rattle.encode_rules.proofs.Runs.{good, Runs, from_run, to_run}
 use Rattle.encode_rules.proofs.Spell.{least, kept}

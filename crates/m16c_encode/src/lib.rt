@@ -1,4 +1,7 @@
 // The encoder for C, a crate of its own: the functions below are inlined into it only where they have one caller.
+
+#![tactic(auto)]
+
 ghost use Rattle.rows.specs.Groups.{document01};
 ghost use Rattle.by_manual.specs.Table.{table_by};
 ghost use Rattle.encode_rules.specs.Written.{outcome};

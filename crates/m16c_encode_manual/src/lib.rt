@@ -1,4 +1,7 @@
 // The encoder of request A9's reading for C, a crate of its own as m16c_encode is.
+
+#![tactic(auto)]
+
 ghost use Rattle.by_manual.specs.Table.{by_manual};
 ghost use Rattle.encode_rules.specs.Written.{outcome};
 ghost use Rattle.m16c_encode.specs.Numbers.{EncodesNumbers};
