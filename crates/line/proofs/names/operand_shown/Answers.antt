@@ -1,5 +1,6 @@
 -- `line::names::operand_shown` meets its contract: an arm is told its name, and its numbers pack the name's characters.
 -- Made by scripts/tables/make-names from the enums of crates/record/src/lib.rt.
+-- Assumes nothing.
 use Rattle.std.proofs.Common.{◌≡◌, sym, ap}
 use Rattle.record.specs.declared.Operand.{Operand}
 use Rattle.record.specs.Same.{same_name}
