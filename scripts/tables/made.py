@@ -20,11 +20,6 @@ def enum(name):
     return re.findall(r"^    (\w+),$", body.group(1), re.M)
 
 
-def quoted(name):
-    """A name as antt writes it."""
-    return f"«{name}»" if "_" in name else name
-
-
 def write_or_check(usage, files):
     """Writes each file, a path in the repository with its text; or says which are not as they would be written, and fails."""
     if sys.argv[1:] not in (["write"], ["check"]):

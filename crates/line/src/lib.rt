@@ -1,4 +1,7 @@
 // The listing's lines, without their newlines, into a buffer that is passed in.
+
+#![tactic(auto)]
+
 mod names; // names
 mod words; // the line in parts
 mod write; // the parts into the buffer
@@ -9,7 +12,7 @@ ghost use Rattle.line.specs.Line.{line_of, from_width, end_text, refused_text};
 use record::Record;
 
 // Refusal 0 and the length written, or 6 and 0.
-#[derive(Drop)]
+#[derive(Clone, Copy)]
 pub struct Written {
     pub refusal: u8,
     pub length: usize,

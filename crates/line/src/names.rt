@@ -112,7 +112,7 @@ pub fn opcode_word(x: Opcode) -> u64
 }
 
 // Eight characters, and the others.
-#[derive(Drop)]
+#[derive(Clone, Copy)]
 pub struct Shown(pub u64, pub u64);
 
 pub fn operand_shown(x: Operand) -> Shown

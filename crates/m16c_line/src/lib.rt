@@ -1,4 +1,7 @@
 // A listing's line for C, a crate of its own: the functions below are inlined into it only where they have one caller.
+
+#![tactic(auto)]
+
 ghost use Rattle.rows.specs.Groups.{document01};
 ghost use Rattle.by_manual.specs.Table.{table_by};
 ghost use Rattle.m16c_line.specs.Lined.{Lines};

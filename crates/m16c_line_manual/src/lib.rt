@@ -1,4 +1,7 @@
 // A listing's line by the manual for C, a crate of its own, so that the line by document 01 has nothing of it inside.
+
+#![tactic(auto)]
+
 ghost use Rattle.by_manual.specs.Table.{by_manual};
 ghost use Rattle.m16c_line.specs.Lined.{Lines};
 

@@ -1,4 +1,7 @@
 // The sweeps for C, a crate of their own: both share one loop, and what stands below is inlined into it where it has one caller.
+
+#![tactic(auto)]
+
 ghost use Rattle.std.specs.Prelude.{◌≡◌};
 ghost use Rattle.m16c_sweep.specs.Parts.{swept_in, SweepsInParts};
 ghost use Rattle.rows.specs.Groups.{document01};

@@ -1,5 +1,8 @@
 // The sweeps for C by the manual, a crate of their own: in one with those by document 01 the loop would ask at every code which of the two
 // it goes by.
+
+#![tactic(auto)]
+
 ghost use Rattle.by_manual.specs.Table.{by_manual};
 ghost use Rattle.m16c_sweep.specs.Parts.{SweepsInParts};
 ghost use Rattle.sweep.specs.declared.Rule.{Rule};

@@ -1,4 +1,7 @@
 // Decoding repeated over an image, by a reading and a rule: where its instructions start, and what becomes of the places that are refused.
+
+#![tactic(auto)]
+
 ghost use Rattle.std.specs.Prelude.{◌+◌, ◌-◌, ◌≤◌, ◌≡◌, length};
 ghost use Rattle.rows.specs.Groups.{document01};
 ghost use Rattle.by_manual.specs.Table.{by_manual, table_by};
@@ -11,7 +14,7 @@ use step::Step;
 pub mod step; // what stands at a place
 
 // At a refused place a sweep goes on with the next byte, or stops.
-#[derive(Drop)]
+#[derive(Clone, Copy)]
 pub enum Rule {
     GoOn,
     Stop,
@@ -19,7 +22,7 @@ pub enum Rule {
 
 // How many starts were kept, where decoding stopped and the refusal there, 0 at the image's end, how many refused places were passed, and
 // how many bytes all decodings took.
-#[derive(Drop)]
+#[derive(Clone, Copy)]
 pub struct Swept {
     pub refusal: u8,
     pub count: usize,
@@ -29,7 +32,7 @@ pub struct Swept {
 }
 
 // What a run breaks out with: the refusal and the bytes that it took, both 0 at the image's end, the starts kept so far, and the place.
-#[derive(Drop)]
+#[derive(Clone, Copy)]
 struct Stopped {
     refusal: u8,
     taken: usize,

@@ -7,7 +7,7 @@ ghost use Rattle.sweep.specs.Walk.{step_at};
 use record::{Record, refusal};
 
 // The image's end; an instruction and the bytes it took; a refusal and the bytes taken.
-#[derive(Drop)]
+#[derive(Clone, Copy)]
 pub enum Step {
     End,
     Accepted(Record, usize),

@@ -1,8 +1,0 @@
--- `sweep::sweep_manual_stopping` meets its contract: it is that of the sweep by its reading and rule.
--- Assumes nothing.
-use borrow.Author.Rules.{rules}
-use Rattle.sweep.proofs.sweep_manual_stopping.Statement.{statement}
-use Rattle.sweep.proofs.sweep_manual_stopping.Tie as tie
-
-pub sweep_manual_stopping_spec : {M : Type 1} → statement M
-sweep_manual_stopping_spec = tie.close (tie.spec (λ c κs. search rules) (λ c. search rules) (λ c. c.before.before.sweep-by.ensures))
