@@ -18,17 +18,17 @@ pub(crate) fn by_words(count: usize, first: &[u8], second: &[u8]) -> Asked
         return Asked::By(false, Rule::GoOn);
     }
     if count == 2 {
-        if first == b"--stopping" {
+        if first == b"--stopping".as_slice() {
             return Asked::By(false, Rule::Stop);
         }
-        if first == b"--manual" {
+        if first == b"--manual".as_slice() {
             return Asked::By(true, Rule::GoOn);
         }
         return Asked::Unknown;
     }
     if count == 3 {
-        if first == b"--stopping" {
-            if second == b"--manual" {
+        if first == b"--stopping".as_slice() {
+            if second == b"--manual".as_slice() {
                 return Asked::By(true, Rule::Stop);
             }
         }
