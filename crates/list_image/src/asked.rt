@@ -4,7 +4,7 @@ ghost use Rattle.list_image.specs.Asked.{AsksFor};
 use sweep::Rule;
 
 // By the manual or by document 01, and by a rule.
-#[derive(Drop)]
+#[derive(Clone, Copy)]
 pub enum Asked {
     By(bool, Rule),
     Unknown,
@@ -18,17 +18,17 @@ pub(crate) fn by_words(count: usize, first: &[u8], second: &[u8]) -> Asked
         return Asked::By(false, Rule::GoOn);
     }
     if count == 2 {
-        if check::same(first, b"--stopping") {
+        if first == b"--stopping".as_slice() {
             return Asked::By(false, Rule::Stop);
         }
-        if check::same(first, b"--manual") {
+        if first == b"--manual".as_slice() {
             return Asked::By(true, Rule::GoOn);
         }
         return Asked::Unknown;
     }
     if count == 3 {
-        if check::same(first, b"--stopping") {
-            if check::same(second, b"--manual") {
+        if first == b"--stopping".as_slice() {
+            if second == b"--manual".as_slice() {
                 return Asked::By(true, Rule::Stop);
             }
         }

@@ -1,22 +1,22 @@
 // Tells lengths from two bytes: for each three bytes of standard input, which are how many bytes are asked about, 0 to 2, and these, a line
 // with the length, or with REFUSED and why there is none.
+#![tactic(auto)]
+
 ghost use Rattle.std.specs.Prelude.{◌≤◌};
 
-use libc::{STDIN_FILENO, STDOUT_FILENO};
+use std::io;
+use std::io::{Read, Write};
 
 // A thousand questions.
 const PIECE: usize = 3 * 1000;
 
-fn tell(bytes: &[u8]) {
+fn tell<W: Write>(bytes: &[u8], out: &mut W) -> io::Result<()> {
     let mut length: usize = 0;
     let refusal = m16c_length::m16c_length(bytes, &mut length);
     if refusal == 0 {
-        io::print_decimal(STDOUT_FILENO, length as u64);
-    } else {
-        io::write_all(STDOUT_FILENO, b"REFUSED ");
-        io::print_decimal(STDOUT_FILENO, refusal as u64);
+        return writeln!(out, "{length}");
     }
-    io::write_all(STDOUT_FILENO, b"\n");
+    writeln!(out, "REFUSED {refusal}")
 }
 
 fn count_of(b: u8) -> usize
@@ -29,30 +29,30 @@ fn count_of(b: u8) -> usize
 }
 
 // A question that is cut short ends it.
-fn tell_all(text: &[u8]) {
+fn tell_all<W: Write>(text: &[u8], out: &mut W) -> io::Result<()> {
     let mut at: usize = 0;
     while 3 <= text.len() - at {
         let start = at + 1;
         let end = start + count_of(text[at]);
-        tell(&text[start..end]);
+        tell(&text[start..end], out)?;
         at = at + 3;
     }
+    Ok(())
 }
 
-fn tell_piece() -> bool {
+fn tell_piece<R: Read, W: Write>(input: &mut R, out: &mut W) -> io::Result<bool> {
     let mut text = [0u8; PIECE];
-    let n = io::read_full(STDIN_FILENO, &mut text);
-    tell_all(&text[..n]);
-    n == PIECE
+    let n = reading::read_full(input, &mut text)?;
+    tell_all(&text[..n], out)?;
+    Ok(n == PIECE)
 }
 
-// Nothing says that the input ends, so the pieces are counted down from a number that no run uses up.
-fn main() {
-    let mut pieces = u64::MAX;
-    while pieces > 0 {
-        if !tell_piece() {
-            return;
+// Nothing says that the input ends, so the pieces are counted up to a number that no run uses up.
+fn main(rt: HostRuntime) -> io::Result<()> {
+    for _ in 0..u64::MAX {
+        if !tell_piece(&mut rt.stdin(), &mut rt.stdout())? {
+            return Ok(());
         }
-        pieces -= 1;
     }
+    Ok(())
 }

@@ -1,13 +1,11 @@
 -- A page with a line more, and pages one after the other.
 -- Assumes nothing.
 use Prim.Native.Nat.{ℕ, ◌+◌, ◌-◌, ◌≤◌}
-use mathlib.Core.Path.{◌≡◌, refl, sym, ap, subst, ◌∙◌}
+use mathlib.Core.Path.{◌≡◌, refl, sym, ap, ◌∙◌}
 use mathlib.Core.List.{List, [], ◌∷◌, ◌++◌, append_assoc, append-nil}
-use mathlib.Core.Logic.{inl, inr}
+use mathlib.Core.Logic.{◌⊎◌, inl, inr}
 use native.Mathlib.Omega.{arith}
 use lib.ListN.{length, take, drop}
-use types.Run.{OneOf}
-use denote.Enum.Declared.{tag_of}
 use borrow.Rule.Slice.PartMut.{put_mid}
 use Rattle.laws.specs.Over.{over}
 use Rattle.laws.proofs.Over.{put_taken, written_part}
@@ -15,8 +13,7 @@ use Rattle.rows.specs.Row.{Table}
 use Rattle.sweep.specs.declared.Rule.{Rule}
 use Rattle.sweep.specs.Walk.{Onward, stop, on}
 use Rattle.listing.specs.declared.page.Next.{Next}
-use Rattle.listing.specs.declared.page.Next.TheVariants.{From}
-use Rattle.listing.specs.contracts.page.Next as declared
+use Rattle.listing.specs.declared.page.Next.TheVariants.{TooLong, From, Nothing}
 use Rattle.listing.specs.Listing.{listing}
 use Rattle.listing.specs.steps.Page.{to_list, next_of, Paged, none, more}
 
@@ -25,13 +22,10 @@ pub leads : (o : Onward) {q : ℕ} → next_of o ≡ From q → o ≡ on q
 leads stop e = cc
 leads (on p) e = cc
 
-pub stops : (o : Onward) {n : Next} → n ≡ next_of o → OneOf (0 ∷ 2 ∷ []) (tag_of declared.the_type n) → o ≡ stop
+pub stops : (o : Onward) {n : Next} → n ≡ next_of o → (n ≡ TooLong) ⊎ (n ≡ Nothing) → o ≡ stop
 stops stop e h = refl
-stops (on p) e h = absurd (none (subst (λ z. OneOf (0 ∷ 2 ∷ []) (tag_of declared.the_type z)) e h))
-  where
-    none : OneOf (0 ∷ 2 ∷ []) 1 → ⊥
-    none (inl e) = omega arith
-    none (inr e) = omega arith
+stops (on p) e (inl f) = cc
+stops (on p) e (inr f) = cc
 
 module _ (at : ℕ) (l xs : List ℕ) {n : ℕ} {ys : List ℕ} (h : at + length xs ≤ length l)
     (put : (n ≡ length xs) × (ys ≡ over xs (take (length l - at) (drop at l)))) where

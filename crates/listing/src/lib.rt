@@ -1,16 +1,26 @@
-// The listing of an image by document 01 or by the manual, and by a rule, written to standard output piece by piece.
+// The listing of an image by document 01 or by the manual, and by a rule, written piece by piece.
+#![tactic(auto)]
+
 mod page; // the pieces, and which is next
 
-use libc::STDOUT_FILENO;
+ghost use Rattle.std.specs.Prelude.{OnOk};
+ghost use Rattle.std.specs.Io.KnownBytes.{Appends};
+ghost use Rattle.by_manual.specs.Table.{table_by};
+ghost use Rattle.listing.specs.Listing.{listing};
+
+use std::io;
+use std::io::Write;
 use sweep::Rule;
 
-pub fn list(manual: bool, rule: Rule, image: &[u8]) {
-    let mut out = [0u8; 8192];
+pub fn list<W: Write>(manual: bool, rule: Rule, image: &[u8], out: &mut W) -> io::Result<()>
+    ensures { OnOk result (Appends (W.contents out.old) (W.contents out.new) (listing (table_by manual) rule image.now)) }
+{
+    let mut piece = [0u8; 8192];
     let mut next = page::first(image);
     while page::is_more(next) {
-        let p = page::fill(manual, rule, image, next, &mut out);
-        let n = p.length;
-        io::write_all(STDOUT_FILENO, &out[..n]);
+        let p = page::fill(manual, rule, image, next, &mut piece);
+        out.write_all(&piece[..p.length])?;
         next = p.next;
     }
+    Ok(())
 }

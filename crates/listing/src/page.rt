@@ -16,7 +16,7 @@ use sweep::{Rule, step};
 const ROOM: usize = 121;
 
 // What is still to be listed: that the image is too long, the lines from a place on, or nothing.
-#[derive(Drop)]
+#[derive(Clone, Copy)]
 pub enum Next {
     TooLong,
     From(usize),
@@ -24,7 +24,7 @@ pub enum Next {
 }
 
 // The bytes filled, and what is to be listed behind them.
-#[derive(Drop)]
+#[derive(Clone, Copy)]
 pub struct Page {
     pub length: usize,
     pub next: Next,
@@ -123,8 +123,9 @@ fn fill_too_long(out: &mut [u8]) -> Page
             next: Next::TooLong,
         };
     }
+    out[..10].copy_from_slice(b"REFUSED 7\n");
     Page {
-        length: bytes::copy(b"REFUSED 7\n", out),
+        length: 10,
         next: Next::Nothing,
     }
 }

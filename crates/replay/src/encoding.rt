@@ -65,5 +65,5 @@ pub(crate) fn agrees(line: &[u8], manual: bool) -> bool
     }
     let mut bytes = [0u8; 7];
     hex::read_bytes(line, 34, &mut bytes);
-    check::same(&buf, &bytes)
+    buf == bytes
 }

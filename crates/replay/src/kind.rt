@@ -5,7 +5,7 @@ ghost use Rattle.replay.specs.Line.{kind_of};
 
 use sweep::Rule;
 
-#[derive(Drop)]
+#[derive(Clone, Copy)]
 pub enum Kind {
     Encodes(bool), // whether by the manual
     Sweeps(Rule),

@@ -1,5 +1,7 @@
 // Replays the stored list of answers: decodes, encodes, sweeps or asks for what each line of its input gives, and compares.
 // Its last line of output counts the answers compared, those that differ and, if there are any, the malformed lines.
+#![tactic(auto)]
+
 mod asking;
 mod decoding;
 mod encoding;
@@ -19,14 +21,15 @@ ghost use Rattle.replay.specs.Tally.{Counted, line_end, Tallied};
 ghost use Rattle.replay.specs.Verdict.{Tells};
 
 use kind::Kind;
-use libc::{STDIN_FILENO, STDOUT_FILENO};
+use std::io;
+use std::io::{Read, Write};
 use tally::Tally;
 use verdict::Verdict;
 
 // 80 lines of 49 characters.
 const PIECE: usize = 80 * 49;
 
-#[derive(Drop)]
+#[derive(Clone, Copy)]
 struct Step {
     tally: Tally,
     goes_on: bool,
@@ -70,16 +73,22 @@ fn judge(line: &[u8]) -> Verdict
     Verdict::Malformed
 }
 
+// A failed write is passed over here: the line that counts the answers is written to the same place, and tells of a failure.
+fn show_first<W: Write>(line: &[u8], out: &mut W) {
+    if out.write_all(b"first: ").is_ok() {
+        let _ = out.write_all(line);
+    }
+}
+
 // The first line that differs is written when it is met, so that no later step has to keep it.
-fn replay_line(line: &[u8], t: Tally) -> Tally
+fn replay_line<W: Write>(line: &[u8], t: Tally, out: &mut W) -> Tally
     ensures { Counted line.now t result }
 {
     match judge(line) {
         Verdict::Agrees => t.agreed(),
         Verdict::Differs => {
             if t.none_differs() {
-                io::write_all(STDOUT_FILENO, b"first: ");
-                io::write_all(STDOUT_FILENO, line);
+                show_first(line, out);
             }
             t.differed()
         }
@@ -98,61 +107,54 @@ fn line_end(at: usize, end: usize) -> usize
 }
 
 // What is left over at the end is a line too, and a malformed one.
-fn replay_lines(text: &[u8], t: Tally) -> Tally
+fn replay_lines<W: Write>(text: &[u8], t: Tally, out: &mut W) -> Tally
     ensures { Tallied text.now (length text.now) t result }
 {
     let mut tally = t;
     let mut at: usize = 0;
     while at < text.len() {
         let end = line_end(at, text.len());
-        tally = replay_line(&text[at..end], tally);
+        tally = replay_line(&text[at..end], tally, out);
         at = end;
     }
     tally
 }
 
-fn replay_piece(t: Tally) -> Step {
+fn replay_piece<R: Read, W: Write>(t: Tally, input: &mut R, out: &mut W) -> io::Result<Step> {
     let mut piece = [0u8; PIECE];
-    let n = io::read_full(STDIN_FILENO, &mut piece);
-    Step {
-        tally: replay_lines(&piece[..n], t),
+    let n = reading::read_full(input, &mut piece)?;
+    Ok(Step {
+        tally: replay_lines(&piece[..n], t, out),
         goes_on: n == PIECE,
-    }
+    })
 }
 
 // Nothing says that the input ends, so the pieces are counted down from a number that no run uses up.
-fn replay() -> Tally {
+fn replay<R: Read, W: Write>(input: &mut R, out: &mut W) -> io::Result<Tally> {
     let mut tally = Tally::new();
-    let mut pieces = u64::MAX;
-    while pieces > 0 {
-        let step = replay_piece(tally);
+    for _ in 0..u64::MAX {
+        let step = replay_piece(tally, input, out)?;
         tally = step.tally;
         if !step.goes_on {
-            return tally;
+            return Ok(tally);
         }
-        pieces -= 1;
     }
-    tally
+    Ok(tally)
 }
 
-fn report(t: Tally) {
+fn report<W: Write>(t: Tally, out: &mut W) -> io::Result<()> {
+    let answers = t.answers;
+    let differ = t.differ;
+    let malformed = t.malformed;
+    let first_malformed = t.first_malformed;
     if t.any_malformed() {
-        io::write_all(STDOUT_FILENO, b"first malformed line: ");
-        io::print_decimal(STDOUT_FILENO, t.first_malformed);
-        io::write_all(STDOUT_FILENO, b"\n");
+        writeln!(out, "first malformed line: {first_malformed}")?;
+        return writeln!(out, "{answers} answers, {differ} differ, {malformed} malformed");
     }
-    io::print_decimal(STDOUT_FILENO, t.answers);
-    io::write_all(STDOUT_FILENO, b" answers, ");
-    io::print_decimal(STDOUT_FILENO, t.differ);
-    io::write_all(STDOUT_FILENO, b" differ");
-    if t.any_malformed() {
-        io::write_all(STDOUT_FILENO, b", ");
-        io::print_decimal(STDOUT_FILENO, t.malformed);
-        io::write_all(STDOUT_FILENO, b" malformed");
-    }
-    io::write_all(STDOUT_FILENO, b"\n");
+    writeln!(out, "{answers} answers, {differ} differ")
 }
 
-fn main() {
-    report(replay());
+fn main(rt: HostRuntime) -> io::Result<()> {
+    let tally = replay(&mut rt.stdin(), &mut rt.stdout())?;
+    report(tally, &mut rt.stdout())
 }

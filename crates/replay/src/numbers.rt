@@ -6,7 +6,7 @@ ghost use Rattle.replay.specs.Verdict.{Tells};
 use crate::hex;
 use record::Answer;
 
-#[derive(Drop)]
+#[derive(Clone, Copy)]
 pub struct Numbers {
     pub refusal: u8,
     pub taken: usize,

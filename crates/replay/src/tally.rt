@@ -3,9 +3,8 @@ ghost use Rattle.std.specs.Prelude.{◌≡◌, ◌==◌, nat_lt};
 ghost use Rattle.replay.specs.Tally.{tally, counted};
 
 use crate::verdict::Verdict;
-use std::num::wrapping_add_u64;
 
-#[derive(Drop)]
+#[derive(Clone, Copy)]
 pub struct Tally {
     pub answers: u64,
     pub differ: u64,
@@ -29,24 +28,24 @@ impl Tally {
     pub fn agreed(mut self) -> Self
         ensures { result ≡ counted Verdict.Agrees self }
     {
-        self.answers = wrapping_add_u64(self.answers, 1);
+        self.answers = self.answers.wrapping_add(1);
         self
     }
 
     pub fn differed(mut self) -> Self
         ensures { result ≡ counted Verdict.Differs self }
     {
-        self.answers = wrapping_add_u64(self.answers, 1);
-        self.differ = wrapping_add_u64(self.differ, 1);
+        self.answers = self.answers.wrapping_add(1);
+        self.differ = self.differ.wrapping_add(1);
         self
     }
 
     pub fn malformed(mut self) -> Self
         ensures { result ≡ counted Verdict.Malformed self }
     {
-        self.malformed = wrapping_add_u64(self.malformed, 1);
+        self.malformed = self.malformed.wrapping_add(1);
         if self.malformed == 1 {
-            self.first_malformed = wrapping_add_u64(self.answers, 1);
+            self.first_malformed = self.answers.wrapping_add(1);
         }
         self
     }

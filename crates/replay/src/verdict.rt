@@ -1,5 +1,5 @@
 // What replaying a line of the stored list shows.
-#[derive(Drop)]
+#[derive(Clone, Copy)]
 pub enum Verdict {
     Agrees,
     Differs,
