@@ -21,8 +21,8 @@ function classify_code(first, code) {
 function judged(code,   class) {
     class = end_of(code) != 0 ? 5 : listed("starred", code) ? 3 : 1
     class += !has_meaning(code)
-    agree(code, "unmeantCode", class == 2)
-    agree(code, "refusedCode", class == 5)
+    agree(code, "unmeant_code", class == 2)
+    agree(code, "refused_code", class == 5)
     return class
 }
 

@@ -21,13 +21,13 @@ function check_counts(   k, first) {
         hold("codes of " first_byte[k], counted(first_byte[k], "123456"), 256)
     for (first in rule_of)
         hold("codes of " first ", which has a line in docs/manual", counted(first, "123456"), 256)
-    hold("accepted codes", counted(ALL, "1234"), proved("countCodes (ends 0)"))
-    hold("marked codes", counted(ALL, "34"), proved("countCodes (λ a b. both (ends 0 a b) (markedAt a b))"))
-    hold("codes refused with 2", ending[2], proved("countCodes (ends 2)"))
-    hold("codes refused with 3", ending[3], proved("countCodes (ends 3)"))
+    hold("accepted codes", counted(ALL, "1234"), proved("count_codes (ends 0)"))
+    hold("marked codes", counted(ALL, "34"), proved("count_codes (λ a b. both (ends 0 a b) (marked_at a b))"))
+    hold("codes refused with 2", ending[2], proved("count_codes (ends 2)"))
+    hold("codes refused with 3", ending[3], proved("count_codes (ends 3)"))
     hold("codes with a meaning", counted(ALL, "135"), proved("meanings : count"))
-    hold("unmarked codes without a meaning", counted(ALL, "2"), proved("countCodes (listedIn unmeantCode)"))
-    hold("refused codes with a meaning", counted(ALL, "5"), proved("countCodes (listedIn refusedCode)"))
+    hold("unmarked codes without a meaning", counted(ALL, "2"), proved("count_codes (listed_in unmeant_code)"))
+    hold("refused codes with a meaning", counted(ALL, "5"), proved("count_codes (listed_in refused_code)"))
 }
 
 # How many codes of a first byte, or all, are in these classes, a digit each.

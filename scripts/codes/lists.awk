@@ -8,7 +8,7 @@ part == "lists" && /^(use |abbrev )/ { next }
 part == "lists" && /^[a-z]/ { keep_definition() }
 part == "lists" { definition = definition " " $0 }
 
-# Keeps the definition that was read last, by its name: parameters, and the tree of what stands behind the =. oneOf has two
+# Keeps the definition that was read last, by its name: parameters, and the tree of what stands behind the =. one_of has two
 # clauses and stands below.
 function keep_definition(   own) {
     gsub(/∷/, " : ", definition)
@@ -21,7 +21,7 @@ function keep_definition(   own) {
         parameter[own, at - 1] = word[at]
     parameters[own] = at - 2
     at++
-    if (own != "oneOf") body[own] = tree()
+    if (own != "one_of") body[own] = tree()
 }
 
 function new_node(text) {
@@ -82,7 +82,7 @@ function applied(n, frame,   called, x, y) {
     if (called == "eqb") return value(x, frame) == value(y, frame)
     if (called == "ltb") return value(x, frame) < value(y, frame)
     if (called == "leb") return value(x, frame) <= value(y, frame)
-    if (called == "oneOf") return one_of(x, value(y, frame), frame)
+    if (called == "one_of") return one_of(x, value(y, frame), frame)
     if ((frame, called) in bound) called = bound[frame, called]
     return call(called, n, frame)
 }

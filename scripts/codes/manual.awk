@@ -1,7 +1,7 @@
 # The first bytes, and what the manual says of each code, packed as crates/manual/specs/Packed.antt says; 0 is an empty code.
 
-part == "manual" && /^listed[0-9A-F][0-9A-F] =/ {
-    page = substr($1, 7)
+part == "manual" && /^listed_?[0-9A-F][0-9A-F] =/ {
+    page = substr($1, length($1) - 1)
     add_first(page)
     entries = 0
     next

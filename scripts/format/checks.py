@@ -13,12 +13,12 @@ CHANGES = "crates/by_manual/proofs/Changes.antt"
 HELD = "crates/manual/proofs/Held.antt"
 REGISTERS = "docs/manual/lists.tsv"
 ANSWERS = "crates/replay/stdin"
-PROVED = ["ends 0", "λ a b. both (ends 0 a b) (markedAt a b)", "ends 2", "ends 3", "λ a b. both (ends 3 a b) (readsAt a b)"]
-PROVED_CHANGED = "listedIn namedCode"
-PROVED_OF_CHANGED = ["not (alike (document01 .rowAt a b) (byManual .rowAt a b))",
-                     "both (acceptedBy document01 a b) (acceptedBy byManual a b)",
-                     "both (not (acceptedBy document01 a b)) (acceptedBy byManual a b)",
-                     "either (acceptedBy document01 a b) (acceptedBy byManual a b)"]
+PROVED = ["ends 0", "λ a b. both (ends 0 a b) (marked_at a b)", "ends 2", "ends 3", "λ a b. both (ends 3 a b) (reads_at a b)"]
+PROVED_CHANGED = "listed_in named_code"
+PROVED_OF_CHANGED = ["not (alike (document01.row_at a b) (by_manual.row_at a b))",
+                     "both (accepted_by document01 a b) (accepted_by by_manual a b)",
+                     "both (not (accepted_by document01 a b)) (accepted_by by_manual a b)",
+                     "either (accepted_by document01 a b) (accepted_by by_manual a b)"]
 
 
 def read(path):
@@ -117,7 +117,7 @@ def check_counts(page):
     late = [c for c in ends[3] if c.steps[0][0] != STOP]
     rows = [len(c) for c in (page.codes, ends[0], [c for c in ends[0] if c.marked], ends[2], ends[3], late)]
     same("the rows of docs/FORMAT.md, counted", said, rows)
-    same(COUNTS, said[1:], [proved(COUNTS, f"countCodes ({what})") for what in PROVED])
+    same(COUNTS, said[1:], [proved(COUNTS, f"count_codes ({what})") for what in PROVED])
     same(f"{HELD}, codes with a meaning", counts_in(page, r"The manual gives a meaning to ([\d,]+)\."), [proved(HELD, "meanings : count")])
 
 
@@ -132,7 +132,7 @@ def check_changed(page):
                            r"though (\d+) of")
     same("the changed rows of docs/FORMAT.md, counted", said, changed_counts(pairs))
     whats = [PROVED_CHANGED] + [f"λ a b. both ({PROVED_CHANGED} a b) ({what})" for what in PROVED_OF_CHANGED]
-    same(CHANGES, [*said[:4], said[0] - said[4]], [proved(CHANGES, f"countCodes ({what})") for what in whats])
+    same(CHANGES, [*said[:4], said[0] - said[4]], [proved(CHANGES, f"count_codes ({what})") for what in whats])
     accepted = [c for c in page.by_manual().codes.values() if not c.refusal]
     said = counts_in(page, r"By the manual ([\d,]+) codes are accepted, (\d+) of these marked")
     same("the rows by the manual, counted", said, [len(accepted), len([c for c in accepted if c.marked])])

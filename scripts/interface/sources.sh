@@ -25,8 +25,8 @@ numbered_refusals() {
     }' "$repo/crates/record/src/refusal.rt"
 }
 
-# The same of lengths that callers make room by. Each stands in a definition or is proved: `whole` (sweep/specs/Sweep), `two-to-seven`
-# (rows/proofs/Length), `line-short` (line/proofs/Lined).
+# The same of lengths that callers make room by. Each stands in a definition or is proved: `whole` (sweep/specs/Sweep), `two_to_seven`
+# (rows/proofs/Length), `line_short` (line/proofs/Lined).
 numbered_lengths() {
     cat <<'LIST'
 4096 longest_image the longest image that is swept, in bytes
@@ -38,24 +38,23 @@ LIST
 # "NUMBER FIELD" of each number of a record, in the order of the definition by which the decoders are proved to fill their entries.
 numbered_fields() {
     awk '
-        { gsub(/«|»/, "") }
-        /^(numbersOf|partNumbers) [a-z] =$/ { on = $1; next }
+        /^(numbers_of|part_numbers) [a-z] =$/ { on = $1; next }
         /^$/ { on = "" }
         on != "" { text[on] = text[on] " " $0 }
         $1 == "entries" && $2 == "=" { entries = $3 }
         END {
-            list = text["numbersOf"]
-            sub(/partNumbers \(x \.inst \.parts\)/, text["partNumbers"], list)
-            gsub(/[()]|\[\]| \.inst/, "", list)
+            list = text["numbers_of"]
+            sub(/part_numbers x\.inst\.parts/, text["part_numbers"], list)
+            gsub(/[()]|\[\]|\.inst/, "", list)
             count = split(list, item, /∷|[+][+]/)
             for (k = 1; k <= count; k++) if (match(item[k], /\..*[a-z0-9]/)) {
                 field = substr(item[k], RSTART + 1, RLENGTH - 1)
-                gsub(/ \./, "_", field)
+                gsub(/\./, "_", field)
                 print fields++, field
             }
             exit fields != entries
         }' "$repo/crates/m16c_decode/specs/Decoded.antt" || {
-        echo "crates/m16c_decode/specs/Decoded.antt: scripts/interface cannot read numbersOf" >&2
+        echo "crates/m16c_decode/specs/Decoded.antt: scripts/interface cannot read numbers_of" >&2
         exit 1
     }
 }
@@ -77,7 +76,8 @@ functions_of() {
     [ -f "$repo/crates/$1/src/lib.rt" ] || return 0
     awk '
         /^\/\// && !on { comment = comment $0 "\n"; next }
-        /^#\[no_mangle\]/ { on = 1; next }
+        /^#\[unsafe\(no_mangle\)\]/ { on = 1; next }
+        /^#\[/ { next }
         !on { comment = ""; next }
         /^    ensures/ {
             parameters = text; sub(/^[^(]*\( */, "", parameters); sub(/,? *\) *->.*/, "", parameters); gsub(/, +/, "; ", parameters)
