@@ -13,8 +13,7 @@ use record::refusal;
 // Decodes at a place of an image. Returns the refusal, 0 for none, and fills twenty entries: taken, opcode, size, width, three
 // operands, imm_wide, dispabs, first, length, marked, dropped, then offset and width of the bytes that first, dispabs and imm_wide were
 // read from, and how many registers a list names. With fewer than twenty entries it returns 6 and touches none.
-#[unsafe(no_mangle)]
-pub extern "C" fn m16c_decode(image: &[u8], at: usize, out: &mut [u32]) -> u32
+pub fn m16c_decode(image: &[u8], at: usize, out: &mut [u32]) -> u32
     ensures { Decodes document01 image.now at out.old result out.new }
 {
     if out.len() < deliver::ENTRIES {
@@ -52,8 +51,7 @@ pub extern "C" fn m16c_decode(image: &[u8], at: usize, out: &mut [u32]) -> u32
 }
 
 // Decodes as m16c_decode does, by the manual. The record does not say so: encode it by m16c_encode_manual.
-#[unsafe(no_mangle)]
-pub extern "C" fn m16c_decode_manual(image: &[u8], at: usize, out: &mut [u32]) -> u32
+pub fn m16c_decode_manual(image: &[u8], at: usize, out: &mut [u32]) -> u32
     ensures { Decodes by_manual image.now at out.old result out.new }
 {
     if out.len() < deliver::ENTRIES {

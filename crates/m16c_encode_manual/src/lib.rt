@@ -10,8 +10,7 @@ use encode::Encoded;
 
 // Encodes as m16c_encode does, by the manual: records that m16c_decode_manual fills. A record does not say which reading made it, and of one
 // that m16c_decode filled this may write another instruction: the record of 7D B9 becomes 7D B1.
-#[unsafe(no_mangle)]
-pub extern "C" fn m16c_encode_manual(
+pub fn m16c_encode_manual(
     numbers: &[u32],
     buf: &mut [u8],
     place: usize,

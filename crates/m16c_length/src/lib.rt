@@ -32,8 +32,7 @@ fn refuse(e: u8, length: &mut usize) -> u32
 // the manual some lengths are others. Returns 0 and leaves the length; or a refusal and 0: 4 for a first byte outside, then 1 for fewer than
 // two bytes, else 2 or 3 where no bytes behind these two make an instruction.
 #[tactic(auto, using(lengths::proofs::Asking::few_right, lengths::proofs::Asking::outside_right, lengths::proofs::Asking::entry_told, lengths::proofs::Asking::zero_unknown, lengths::proofs::Asking::some_known, lengths::proofs::Asking::of_known))]
-#[unsafe(no_mangle)]
-pub extern "C" fn m16c_length(bytes: &[u8], length: &mut usize) -> u32
+pub fn m16c_length(bytes: &[u8], length: &mut usize) -> u32
     ensures { LengthOf document01 bytes.now result length.new }
 {
     if bytes.len() < 2 {

@@ -29,8 +29,7 @@ pub fn line_by(
 
 // The listing's line of the instruction at a place of an image, without a newline, over the first bytes of a buffer. Returns 0 and leaves
 // the line's length; or decoding's refusal, or 6 where the line has no room, with length 0 and the buffer as it was.
-#[unsafe(no_mangle)]
-pub extern "C" fn m16c_line(image: &[u8], at: usize, out: &mut [u8], line_length: &mut usize) -> u32
+pub fn m16c_line(image: &[u8], at: usize, out: &mut [u8], line_length: &mut usize) -> u32
     ensures { Lines document01 image.now at out.old result line_length.new out.new }
 {
     line_by(false, image, at, out, line_length)

@@ -6,8 +6,7 @@ ghost use Rattle.by_manual.specs.Table.{by_manual};
 ghost use Rattle.m16c_line.specs.Lined.{Lines};
 
 // The line as m16c_line writes it, of the instruction that stands there by the manual.
-#[unsafe(no_mangle)]
-pub extern "C" fn m16c_line_manual(
+pub fn m16c_line_manual(
     image: &[u8],
     at: usize,
     out: &mut [u8],

@@ -22,8 +22,7 @@ fn refusal_of(f: Field) -> u32
 // The number of operand k of the record of the first twelve numbers that m16c_decode fills: signed for Disp8_FB and Disp8, whose low byte
 // counts from -128 to 127, and for any other name its field as it is. Taken, length and marked do not count, nor what stands behind.
 // Returns 0 and leaves the number; or 5 and 0 where the numbers make no record or it has no operand k with a number.
-#[unsafe(no_mangle)]
-pub extern "C" fn m16c_operand_number(numbers: &[u32], k: usize, number: &mut i64) -> u32
+pub fn m16c_operand_number(numbers: &[u32], k: usize, number: &mut i64) -> u32
     ensures { TellsNumber numbers.now k result number.new }
 {
     let n = signed::number_at(from_numbers::record_of(numbers), k);

@@ -10,15 +10,13 @@ ghost use Rattle.m16c_operand_number.specs.Told.{TellsNumber};
 
 use record::Answer;
 
-#[unsafe(no_mangle)]
-pub extern "C" fn m16c_decode(image: &[u8], at: usize, out: &mut [u32]) -> u32
+pub fn m16c_decode(image: &[u8], at: usize, out: &mut [u32]) -> u32
     ensures { Decodes document01 image.now at out.old result out.new }
 {
     m16c_decode::decode_into(false, image, at, out)
 }
 
-#[unsafe(no_mangle)]
-pub extern "C" fn m16c_encode(
+pub fn m16c_encode(
     numbers: &[u32],
     buf: &mut [u8],
     place: usize,
@@ -29,16 +27,14 @@ pub extern "C" fn m16c_encode(
     m16c_encode::m16c_encode(numbers, buf, place, bytes_written)
 }
 
-#[unsafe(no_mangle)]
-pub extern "C" fn m16c_line(image: &[u8], at: usize, out: &mut [u8], line_length: &mut usize) -> u32
+pub fn m16c_line(image: &[u8], at: usize, out: &mut [u8], line_length: &mut usize) -> u32
     ensures { Lines document01 image.now at out.old result line_length.new out.new }
 {
     m16c_line::m16c_line(image, at, out, line_length)
 }
 
 // By decoding, with five zeros behind the first two bytes: the table takes over ten times the bytes.
-#[unsafe(no_mangle)]
-pub extern "C" fn m16c_length(bytes: &[u8], length: &mut usize) -> u32
+pub fn m16c_length(bytes: &[u8], length: &mut usize) -> u32
     ensures { LengthOf document01 bytes.now result length.new }
 {
     if bytes.len() < 2 {
@@ -50,8 +46,7 @@ pub extern "C" fn m16c_length(bytes: &[u8], length: &mut usize) -> u32
     answer.refusal as u32
 }
 
-#[unsafe(no_mangle)]
-pub extern "C" fn m16c_operand_number(numbers: &[u32], k: usize, number: &mut i64) -> u32
+pub fn m16c_operand_number(numbers: &[u32], k: usize, number: &mut i64) -> u32
     ensures { TellsNumber numbers.now k result number.new }
 {
     m16c_operand_number::m16c_operand_number(numbers, k, number)

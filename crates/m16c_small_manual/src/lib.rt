@@ -6,15 +6,13 @@ ghost use Rattle.encode_rules.specs.Written.{outcome};
 ghost use Rattle.m16c_encode.specs.Numbers.{EncodesNumbers};
 ghost use Rattle.m16c_line.specs.Lined.{Lines};
 
-#[unsafe(no_mangle)]
-pub extern "C" fn m16c_decode_manual(image: &[u8], at: usize, out: &mut [u32]) -> u32
+pub fn m16c_decode_manual(image: &[u8], at: usize, out: &mut [u32]) -> u32
     ensures { Decodes by_manual image.now at out.old result out.new }
 {
     m16c_decode::decode_into(true, image, at, out)
 }
 
-#[unsafe(no_mangle)]
-pub extern "C" fn m16c_encode_manual(
+pub fn m16c_encode_manual(
     numbers: &[u32],
     buf: &mut [u8],
     place: usize,
@@ -25,8 +23,7 @@ pub extern "C" fn m16c_encode_manual(
     m16c_encode_manual::m16c_encode_manual(numbers, buf, place, bytes_written)
 }
 
-#[unsafe(no_mangle)]
-pub extern "C" fn m16c_line_manual(
+pub fn m16c_line_manual(
     image: &[u8],
     at: usize,
     out: &mut [u8],

@@ -12,8 +12,7 @@ use sweep::Swept;
 // The starts of an image's instructions, to its end: a refused place is counted, and the next byte decoded. Returns 0, and leaves how many
 // starts were kept, the image's length, how many places were refused and how many bytes all decodings took, at most three times the image's
 // length; or returns 7 or 6, and leaves 0 and the starts as they were.
-#[unsafe(no_mangle)]
-pub extern "C" fn m16c_sweep(
+pub fn m16c_sweep(
     image: &[u8],
     starts: &mut [u16],
     count: &mut usize,
@@ -30,8 +29,7 @@ pub extern "C" fn m16c_sweep(
 // The starts of an image's instructions, to its end or the first refusal. Returns that refusal, 0 at the end, and leaves how many starts
 // were kept, where decoding stopped, 0 for refused and how many bytes all decodings took, the refused one too, at most the image's length;
 // or returns 7 or 6, and leaves 0 and the starts as they were.
-#[unsafe(no_mangle)]
-pub extern "C" fn m16c_sweep_stopping(
+pub fn m16c_sweep_stopping(
     image: &[u8],
     starts: &mut [u16],
     count: &mut usize,

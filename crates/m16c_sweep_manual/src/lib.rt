@@ -8,8 +8,7 @@ ghost use Rattle.m16c_sweep.specs.Parts.{SweepsInParts};
 ghost use Rattle.sweep.specs.declared.Rule.{Rule};
 
 // Sweeps as m16c_sweep does, by the manual. The starts do not say so: decode and list there by the manual too.
-#[unsafe(no_mangle)]
-pub extern "C" fn m16c_sweep_manual(
+pub fn m16c_sweep_manual(
     image: &[u8],
     starts: &mut [u16],
     count: &mut usize,
@@ -24,8 +23,7 @@ pub extern "C" fn m16c_sweep_manual(
 }
 
 // Sweeps as m16c_sweep_stopping does, by the manual. The starts do not say so: decode and list there by the manual too.
-#[unsafe(no_mangle)]
-pub extern "C" fn m16c_sweep_manual_stopping(
+pub fn m16c_sweep_manual_stopping(
     image: &[u8],
     starts: &mut [u16],
     count: &mut usize,

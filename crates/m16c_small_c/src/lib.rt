@@ -1,0 +1,51 @@
+// The functions for C of the small archive, under the names that C sees.
+
+#![tactic(auto)]
+
+ghost use Rattle.rows.specs.Groups.{document01};
+ghost use Rattle.m16c_decode.specs.Decoded.{Decodes};
+ghost use Rattle.encode_rules.specs.Written.{outcome};
+ghost use Rattle.lengths.specs.Length.{LengthOf};
+ghost use Rattle.m16c_encode.specs.Numbers.{EncodesNumbers};
+ghost use Rattle.m16c_line.specs.Lined.{Lines};
+ghost use Rattle.m16c_operand_number.specs.Told.{TellsNumber};
+
+#[unsafe(no_mangle)]
+pub extern "C" fn m16c_decode(image: &[u8], at: usize, out: &mut [u32]) -> u32
+    ensures { Decodes document01 image.now at out.old result out.new }
+{
+    m16c_small::m16c_decode(image, at, out)
+}
+
+#[unsafe(no_mangle)]
+pub extern "C" fn m16c_encode(
+    numbers: &[u32],
+    buf: &mut [u8],
+    place: usize,
+    bytes_written: &mut usize,
+) -> u32
+    ensures { EncodesNumbers document01 numbers.now buf.old place (outcome result bytes_written.new buf.new) }
+{
+    m16c_small::m16c_encode(numbers, buf, place, bytes_written)
+}
+
+#[unsafe(no_mangle)]
+pub extern "C" fn m16c_line(image: &[u8], at: usize, out: &mut [u8], line_length: &mut usize) -> u32
+    ensures { Lines document01 image.now at out.old result line_length.new out.new }
+{
+    m16c_small::m16c_line(image, at, out, line_length)
+}
+
+#[unsafe(no_mangle)]
+pub extern "C" fn m16c_length(bytes: &[u8], length: &mut usize) -> u32
+    ensures { LengthOf document01 bytes.now result length.new }
+{
+    m16c_small::m16c_length(bytes, length)
+}
+
+#[unsafe(no_mangle)]
+pub extern "C" fn m16c_operand_number(numbers: &[u32], k: usize, number: &mut i64) -> u32
+    ensures { TellsNumber numbers.now k result number.new }
+{
+    m16c_small::m16c_operand_number(numbers, k, number)
+}

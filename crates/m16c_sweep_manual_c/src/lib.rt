@@ -1,0 +1,35 @@
+// What the crate m16c_sweep_manual has, under the names that C sees.
+
+#![tactic(auto)]
+
+ghost use Rattle.by_manual.specs.Table.{by_manual};
+ghost use Rattle.m16c_sweep.specs.Parts.{SweepsInParts};
+ghost use Rattle.sweep.specs.declared.Rule.{Rule};
+
+#[unsafe(no_mangle)]
+pub extern "C" fn m16c_sweep_manual(
+    image: &[u8],
+    starts: &mut [u16],
+    count: &mut usize,
+    place: &mut usize,
+    refused: &mut usize,
+    read: &mut usize,
+) -> u32
+    ensures { SweepsInParts by_manual Rule.GoOn image.now starts.old result count.new place.new refused.new read.new starts.new }
+{
+    m16c_sweep_manual::m16c_sweep_manual(image, starts, count, place, refused, read)
+}
+
+#[unsafe(no_mangle)]
+pub extern "C" fn m16c_sweep_manual_stopping(
+    image: &[u8],
+    starts: &mut [u16],
+    count: &mut usize,
+    place: &mut usize,
+    refused: &mut usize,
+    read: &mut usize,
+) -> u32
+    ensures { SweepsInParts by_manual Rule.Stop image.now starts.old result count.new place.new refused.new read.new starts.new }
+{
+    m16c_sweep_manual::m16c_sweep_manual_stopping(image, starts, count, place, refused, read)
+}
