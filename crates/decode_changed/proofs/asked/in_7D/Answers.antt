@@ -12,8 +12,7 @@ use Rattle.laws.proofs.Agree.{agree}
 use Rattle.readers.specs.steps.Set.{holds}
 use Rattle.by_manual.specs.Changed.{change_7D}
 use Rattle.by_manual.specs.Lists.{is_changed}
-use Rattle.decode_changed.proofs.asked.in_7D.Statement.{statement}
-use Rattle.decode_changed.proofs.asked.in_7D.Tie as tie
+use Rattle.decode_changed.proofs.asked.in_7D.Goals as goal
 
 both_sets : (b : ℕ) → b < 256 → pick (eqb (b / 16) 13) (holds 0x6400 (b % 16)) (holds 0x0C3C (b / 16)) ≡ is_changed (change_7D (b / 16) (b % 16))
 both_sets = agree (λ b. pick (eqb (b / 16) 13) (holds 0x6400 (b % 16)) (holds 0x0C3C (b / 16))) (λ b. is_changed (change_7D (b / 16) (b % 16))) 256 refl
@@ -21,11 +20,8 @@ both_sets = agree (λ b. pick (eqb (b / 16) 13) (holds 0x6400 (b % 16)) (holds 0
 by_row : (b : ℕ) → b < 256 → (x : Bool) → eqb (b / 16) 13 ≡ x → pick x (holds 0x6400 (b % 16)) (holds 0x0C3C (b / 16)) ≡ is_changed (change_7D (b / 16) (b % 16))
 by_row b l x e = ap (λ y. pick y (holds 0x6400 (b % 16)) (holds 0x0C3C (b / 16))) (sym e) ∙ both_sets b l
 
-conditions : tie.Need-returns
-conditions c = let s = c.before.before in c.has.ensures ∙ by_row s.args.b (omega (arith, s.ranges.b)) true (eq-eqb _ 13 c.before.if1.true)
+pub returns-then-b-eq13 : goal.returns-then-b-eq13
+returns-then-b-eq13 c = c.has.ensures ∙ by_row c.args.b (omega (arith, c.ranges.b)) true (eq-eqb _ 13 c.if-b-eq13.true)
 
-rows : tie.Need-returns-2
-rows c = let s = c.before.before in c.has2.ensures ∙ by_row s.args.b (omega (arith, s.ranges.b)) false (ne_eqb _ 13 c.before.if1.false)
-
-pub in_7D_spec : {M : Type 1} → statement M
-in_7D_spec = tie.close (tie.spec (λ c κs. search rules) conditions (λ c κs. search rules) rows)
+pub returns : goal.returns
+returns c = c.has-2.ensures ∙ by_row c.args.b (omega (arith, c.ranges.b)) false (ne_eqb _ 13 c.if-b-eq13.false)

@@ -8,13 +8,9 @@ use Rattle.laws.proofs.Agree.{agree}
 use Rattle.readers.specs.steps.Set.{holds}
 use Rattle.by_manual.specs.Changed.{change76}
 use Rattle.by_manual.specs.Lists.{is_changed}
-use Rattle.decode_changed.proofs.asked.in_76.Statement.{statement}
-use Rattle.decode_changed.proofs.asked.in_76.Tie as tie
+use Rattle.decode_changed.proofs.asked.in_76.Goals as goal
 
-returns : tie.Need-returns
+pub returns : goal.returns
 returns c w =
     c.has.ensures
-    ∙ agree (λ b. holds 0x5200 (b / 16)) (λ b. is_changed (change76 w (b / 16) (b % 16))) 256 refl c.before.args.b (omega (arith, c.before.ranges.b))
-
-pub in_76_spec : {M : Type 1} → statement M
-in_76_spec = tie.close (tie.spec (λ c κs. search rules) returns)
+    ∙ agree (λ b. holds _ (b / 16)) (λ b. is_changed (change76 w (b / 16) (b % 16))) 256 refl c.args.b (omega (arith, c.ranges.b))
