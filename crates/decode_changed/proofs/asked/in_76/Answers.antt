@@ -3,7 +3,6 @@
 use Prim.Native.Nat.{◌/◌, ◌%◌}
 use mathlib.Core.Path.{refl, ◌∙◌}
 use native.Mathlib.Omega.{arith}
-use borrow.Author.Rules.{rules}
 use Rattle.laws.proofs.Agree.{agree}
 use Rattle.readers.specs.steps.Set.{holds}
 use Rattle.by_manual.specs.Changed.{change76}

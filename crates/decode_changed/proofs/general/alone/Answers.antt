@@ -1,7 +1,6 @@
 -- `decode_changed::general::alone` meets its contract.
 -- Assumes nothing.
 use mathlib.Core.Path.{refl}
-use borrow.Author.Rules.{rules}
 use Rattle.rows.specs.Rows.{row}
 use Rattle.rows.specs.Run.{run_row}
 use Rattle.readers.proofs.Told.{first}

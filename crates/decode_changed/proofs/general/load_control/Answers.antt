@@ -2,7 +2,6 @@
 -- Assumes nothing.
 use mathlib.Core.Path.{refl}
 use borrow.Author.Tests.{eq-eqb, ne_eqb}
-use borrow.Author.Rules.{rules}
 use Rattle.rows.specs.Row.{InvalidOperand}
 use Rattle.rows.specs.Rows.{row}
 use Rattle.rows.specs.Run.{run_row}

@@ -2,7 +2,6 @@
 -- Assumes nothing.
 use Prim.Native.Nat.{◌%◌}
 use mathlib.Core.Path.{refl, ap, ◌∙◌}
-use borrow.Author.Rules.{rules}
 use Rattle.laws.proofs.Rest.{rest}
 use Rattle.rows.specs.Codes.{num_J}
 use Rattle.rows.specs.Rows.{row}

@@ -1,7 +1,6 @@
 -- `decode_changed::within::add_stack` meets its contract.
 -- Assumes nothing.
 use mathlib.Core.Path.{refl, ap, ◌∙◌}
-use borrow.Author.Rules.{rules}
 use Rattle.rows.proofs.Steps.{done}
 use Rattle.rows.specs.Run.{accepted, begun, run_row}
 use Rattle.rows.specs.Rows.{row}

@@ -1,7 +1,6 @@
 -- `decode_changed::within::condition` meets its contract.
 -- Assumes nothing.
 use mathlib.Core.Path.{refl}
-use borrow.Author.Rules.{rules}
 use Rattle.rows.proofs.Steps.{done}
 use Rattle.rows.specs.Run.{run_row}
 use Rattle.rows.specs.Rows.{row}

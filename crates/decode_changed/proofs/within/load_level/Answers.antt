@@ -2,7 +2,6 @@
 -- Assumes nothing.
 use mathlib.Core.Path.{refl, ap, ◌∙◌}
 use borrow.Author.Tests.{le-leb, lt-leb}
-use borrow.Author.Rules.{rules}
 use Rattle.rows.proofs.Steps.{stops, done}
 use Rattle.rows.specs.Run.{accepted, run_row}
 use Rattle.rows.specs.Rows.{row}
