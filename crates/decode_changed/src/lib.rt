@@ -1,4 +1,7 @@
 // The rows that request A9 changes to the manual's: at which codes they stand, and what stands behind these, by the second byte b.
+
+#![tactic(auto)]
+
 pub mod asked; // whether a code has one
 pub mod general; // those that read G(n)
 pub mod within; // those whose number, if any, is part of the code

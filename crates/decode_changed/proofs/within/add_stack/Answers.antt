@@ -1,0 +1,12 @@
+-- `decode_changed::within::add_stack` meets its contract.
+-- Assumes nothing.
+use mathlib.Core.Path.{refl, ap, ◌∙◌}
+use Rattle.rows.proofs.Steps.{done}
+use Rattle.rows.specs.Run.{accepted, begun, run_row}
+use Rattle.rows.specs.Rows.{row}
+use Rattle.decode_changed.proofs.within.add_stack.Goals as goal
+
+pub returns : goal.returns
+unfolding run_row row
+returns c = λ bs.
+    done bs refl _ (c.accept.ensures ∙ ap (accepted _ _ _ _ _ _) (c.begin.ensures ∙ ap begun c.sign_extend.ensures)) refl refl refl refl refl refl
