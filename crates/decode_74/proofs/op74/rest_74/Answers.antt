@@ -1,0 +1,7 @@
+-- `decode_74::op74::rest_74` meets its contract.
+use borrow.Author.Tests.{le-ltb, ne_eqb}
+use Rattle.readers.proofs.Told.{none}
+use Rattle.decode_74.proofs.op74.rest_74.Goals as goal
+
+pub returns : goal.returns
+returns c = rw (le-ltb _ 2 c.if-h-lt2.false, ne_eqb _ 11 c.if-h-eq11.false, ne_eqb _ 12 c.if-h-eq12.false) (none _ _)
