@@ -52,6 +52,7 @@ fn nibble(n: u32) -> Code
     single::fixed(0, 0)
 }
 
+#[tactic(auto, unfolding(crate::specs::steps::Entries::entry_of))]
 pub(crate) fn is_numbered(o: Opcode) -> bool
     ensures { result ≡ choice.is_numbered (entries.entry_of o).codes }
 {
@@ -61,6 +62,7 @@ pub(crate) fn is_numbered(o: Opcode) -> bool
     }
 }
 
+#[tactic(auto, unfolding(crate::specs::steps::Entries::entry_of))]
 pub(crate) fn code_by(o: Opcode, q: Asked, n: u32) -> Code
     ensures { result ≡ coded (choice.code_by (entries.entry_of o).codes q n) }
 {

@@ -29,6 +29,7 @@ fn changes(manual: bool, o: Opcode, q: Asked) -> bool
 }
 
 // The code for what is asked; n is the number of operand 0.
+#[tactic(auto, unfolding(crate::specs::steps::Choose::choose_by, crate::specs::steps::Choose::is_whole))]
 pub fn choose(manual: bool, o: Opcode, q: Asked, n: u32) -> Chosen
     ensures { (result.code ≡ coded (choice.choose_by manual o q n)) × (result.whole ≡ choice.is_whole manual o q) }
 {

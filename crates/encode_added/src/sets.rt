@@ -24,6 +24,7 @@ pub enum Kind {
     Unchanged,
 }
 
+#[tactic(auto, unfolding(crate::specs::steps::Entries::entry_of))]
 fn kind_of(o: Opcode) -> Kind
     ensures { result ≡ entries.kind_of o }
 {
