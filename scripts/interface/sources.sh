@@ -67,36 +67,44 @@ sized_opcodes() {
 # Of each function for C, in the order of crates.txt, its comment as "// ..." lines and then "fn NAME RETURNED; PARAMETER: TYPE; ...".
 # The small archive has some of them once more.
 functions() {
-    sed 's/:.*//' "$repo/crates.txt" | grep -vx 'm16c_small\(_manual\)\{0,1\}' | while read -r crate; do
+    sed 's/[ :].*//' "$repo/crates.txt" | grep -v '^m16c_small' | while read -r crate; do
         functions_of "$crate"
     done
 }
 
+# A function that a crate NAME_c only hands on has its comment in the crate NAME.
 functions_of() {
     [ -f "$repo/crates/$1/src/lib.rt" ] || return 0
+    set -- "$repo/crates/$1/src/lib.rt" "$repo/crates/${1%_c}/src/lib.rt"
+    if [ "$1" = "$2" ] || [ ! -f "$2" ]; then set -- "$1"; else set -- "$2" "$1"; fi
     awk '
+        FNR == 1 { on = 0; text = comment = "" }
         /^\/\// && !on { comment = comment $0 "\n"; next }
         /^#\[unsafe\(no_mangle\)\]/ { on = 1; next }
         /^#\[/ { next }
+        /^pub fn / && !on { sub(/^pub fn /, ""); sub(/\(.*/, ""); comment_of[$0] = comment; comment = ""; next }
         !on { comment = ""; next }
         /^    ensures/ {
             parameters = text; sub(/^[^(]*\( */, "", parameters); sub(/,? *\) *->.*/, "", parameters); gsub(/, +/, "; ", parameters)
             returned = text; sub(/^.*-> */, "", returned); sub(/ *$/, "", returned)
             sub(/^.* fn /, "", text); sub(/\(.*/, "", text)
-            printf "%sfn %s %s; %s\n", comment, text, returned, parameters
+            printf "%sfn %s %s; %s\n", comment_of[text] == "" ? comment : comment_of[text], text, returned, parameters
             on = 0
             text = comment = ""
             next
         }
-        { gsub(/ +/, " "); text = text $0 }' "$repo/crates/$1/src/lib.rt"
+        { gsub(/ +/, " "); text = text $0 }' "$@"
 }
 
 # One header serves both archives: the small one's functions are declared as in the crates of their own.
 check_small() {
     functions | grep '^fn ' >"$out/declared"
-    { functions_of m16c_small; functions_of m16c_small_manual; } | grep '^fn ' >"$out/small"
+    sed 's/[ :].*//' "$repo/crates.txt" | grep '^m16c_small' | while read -r crate; do functions_of "$crate"; done | grep '^fn ' >"$out/small" || {
+        echo "no function of the small archive is found" >&2
+        exit 1
+    }
     ! grep -vxFf "$out/declared" "$out/small" || {
-        echo "m16c_small or m16c_small_manual declares the functions above otherwise than the crates of that name" >&2
+        echo "the crates m16c_small.. declare the functions above otherwise than the crates of that name" >&2
         exit 1
     }
 }
