@@ -1,4 +1,7 @@
 // Decoding at a place of an image: the first byte chooses the group; the reading, whether changed rows go before its own.
+
+#![tactic(auto)]
+
 mod groups; // the groups of which a reading by the manual changes rows
 
 ghost use Rattle.std.specs.Prelude.{◌/◌, ◌%◌, ◌≡◌, Bool, take, drop};

@@ -7,19 +7,16 @@ use mathlib.Core.List.{List}
 use native.Mathlib.Omega.{arith}
 use lib.ListN.{length, get_or, take, drop, length-drop}
 use lib.Seq.{get_or-drop}
-use borrow.Author.Rules.{rules}
 use Rattle.laws.specs.Choice.{pick}
 use Rattle.rows.specs.Groups.{known}
 use Rattle.rows.specs.Run.{decode_by, refusal}
 use Rattle.by_manual.specs.Table.{table_by}
 use Rattle.decode.proofs.Bytes.{drop_past, none, one}
 use Rattle.decode.proofs.Readings.{known_by}
-use Rattle.decode.proofs.decode_few.Statement.{statement}
-use Rattle.decode.proofs.decode_few.Tie as tie
+use Rattle.decode.proofs.decode_few.Goals as goal
 
-empty : tie.Need-returns
-empty c m = let s = c.before.before.before in
-    c.refuse.ensures ∙ none (table_by m) (drop s.args.at s.args.image.now) (ap length (drop_past s.args.at s.args.image.now c.before.if1.true))
+pub returns-then-image-at : goal.returns-then-image-at
+returns-then-image-at c m = c.refuse.ensures ∙ none (table_by m) (drop c.args.at c.args.image.now) (ap length (drop_past c.args.at c.args.image.now c.if-image-at.true))
 
 -- the byte is asked for at its place
 there : (image : List ℕ) (at : ℕ) → at < length image → (known-there : Bool) → known-there ≡ known (get_or image at 0) → (m : Bool)
@@ -28,17 +25,10 @@ there image at l k e m =
     let byte : get_or (drop at image) 0 0 ≡ get_or image at 0 = get_or-drop at image 0 0 ∙ ap (λ i. get_or image i 0) (omega arith) in
     ap (λ x. pick x (refusal 1 1) (refusal 4 1)) (e ∙ ap known (sym byte) ∙ known_by m (get_or (drop at image) 0 0)) ∙ one (table_by m) (drop at image) (omega (arith, length-drop at image))
 
-cut : tie.Need-returns-2
-cut c m = let s = c.before.before.before.before.before.before in
-    c.refuse2.ensures
-    ∙ (rw c.before.if2.true at (there s.args.image.now s.args.at c.before.before.before.before.if1.false _ c.before.before.in_part.ensures m))
+pub returns-then-in_part : goal.returns-then-in_part
+returns-then-in_part c m = c.refuse-then-in_part.ensures
+    ∙ (rw c.if-in_part.true at (there c.args.image.now c.args.at c.if-image-at.false _ c.in_part.ensures m))
 
-outside : tie.Need-returns-3
-outside c m = let s = c.before.before.before.before.before.before in
-    c.refuse3.ensures
-    ∙ (rw c.before.if2.false at (there s.args.image.now s.args.at c.before.before.before.before.if1.false _ c.before.before.in_part.ensures m))
-
-pub decode_few_spec : {M : Type 1} → statement M
-decode_few_spec =
-    tie.close
-    (tie.spec (λ c κs. search rules) empty (λ c. search rules) (λ c κs. search rules) (λ c κs. search rules) cut (λ c κs. search rules) outside)
+pub returns : goal.returns
+returns c m = c.refuse-2.ensures
+    ∙ (rw c.if-in_part.false at (there c.args.image.now c.args.at c.if-image-at.false _ c.in_part.ensures m))
