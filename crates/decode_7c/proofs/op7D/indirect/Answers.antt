@@ -1,0 +1,19 @@
+-- `decode_7c::op7D::indirect` meets its contract.
+use mathlib.Core.Path.{refl, sym, ◌∙◌}
+use Rattle.rows.specs.Row.{InvalidOperand}
+use Rattle.rows.specs.Run.{run_row}
+use Rattle.rows.specs.Rows.{row}
+use Rattle.readers.proofs.Told.{first}
+use Rattle.rows.proofs.Steps.{stops}
+use Rattle.readers.proofs.Finish.{ended}
+use Rattle.decode_7c.specs.steps.Op7D.{jump_by}
+use Rattle.decode_7c.proofs.op7D.indirect.Goals as goal
+
+pub returns-then-long_refused : goal.returns-then-long_refused
+unfolding run_row row jump_by
+returns-then-long_refused c = rw (sym c.long_refused.ensures ∙ c.if-long_refused.true) (stops InvalidOperand _ _ _ _ c.refuse.ensures)
+
+pub returns : goal.returns
+unfolding run_row row jump_by
+returns c = rw (sym c.long_refused.ensures ∙ c.if-long_refused.false)
+    (ended _ _ refl _ (first _ _ c.long-got.ensures) c.finish.ensures c.jump_opcode-o.ensures refl refl c.long_name-name.ensures refl refl)
