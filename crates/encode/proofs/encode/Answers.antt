@@ -13,7 +13,7 @@ use Rattle.encode_added.specs.steps.Choose.{choice_of, encoded_by}
 use Rattle.encode_rules.specs.Says.{Found, bytes, none}
 use Rattle.encode_rules.specs.Written.{Left, outcome, written, Encodes}
 use Rattle.encode_added.proofs.Right.{right_by}
-use Rattle.encode.specs.steps.Plan.{planned, found_by}
+use Rattle.encode.specs.steps.Plan.{planned}
 use Rattle.encode.proofs.Taken.{third}
 use Rattle.encode.proofs.encode.Goals as goal
 
