@@ -22,6 +22,7 @@ const FOUR_BITS: u8 = 4;
 
 const EIGHT_BITS: u8 = 8;
 
+#[tactic(auto, unfolding(crate::specs::steps::Slots::count_of, crate::specs::steps::Slots::size_of, record::specs::Same::same_name, record::specs::Same::among))]
 pub(crate) fn size_of(o: Operand) -> u8
     ensures { result ≡ size_of o }
 {

@@ -4,6 +4,7 @@ ghost use Rattle.record.specs.Same.{base_of, key};
 
 use record::{Key, Operand, Record, fields};
 
+#[tactic(auto, unfolding(record::specs::Same::same_name, record::specs::Same::among, record::specs::Same::base_of))]
 pub(crate) fn base_of(o: Operand) -> Operand
     ensures { result ≡ base_of o }
 {

@@ -11,6 +11,7 @@ use crate::{Plan, condition, counts, joined};
 use encode_choice::{Asked, names};
 use record::{Key, Operand};
 
+#[tactic(auto, unfolding(crate::specs::steps::Slots::turns, record::specs::Same::same_name, record::specs::Same::among, record::specs::Same::field_of))]
 fn turns(o: Operand) -> bool
     ensures { result ≡ slots.turns o }
 {
