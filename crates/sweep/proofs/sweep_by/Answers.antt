@@ -62,7 +62,7 @@ returns-then-stopped-eq-ACCEPTED c =
     let end = c.if-stopped-eq-ACCEPTED.true in
     let done = c.run-stopped.ensures in
     let rest = goes_on _ _ _ c.args.starts.now l.place l.count l.refused (l.place + l.again) l.starts {read = c.run-stopped.result.place + l.again}
-      (omega (arith, l.invariant.long)) done l.invariant.left (omega (arith, done.ahead, done.took.none end)) in
+    (omega (arith, l.invariant.long)) done l.invariant.left (omega (arith, done.ahead, done.took.none end)) in
     sweeps _ _ _ _ (rest.ended end)
 
 pub loop-rule-preserved : goal.loop-rule-preserved
@@ -72,7 +72,7 @@ loop-rule-preserved c =
     let done = c.run-stopped.ensures in
     let refused = c.if-stopped-eq-ACCEPTED.false in
     let rest = goes_on _ _ _ c.args.starts.now l.place l.count l.refused (l.place + l.again) l.starts {read = c.run-stopped.result.place + 1 + c.read_again-later.result}
-      (omega (arith, l.invariant.long)) done l.invariant.left (omega (arith, done.ahead, done.took.some refused, c.read_again-later.ensures)) in record {
+    (omega (arith, l.invariant.long)) done l.invariant.left (omega (arith, done.ahead, done.took.some refused, c.read_again-later.ensures)) in record {
       few = omega (arith, done.few);
       inside = omega (arith, rest.inside refused);
       long = done.long ∙ l.invariant.long;
