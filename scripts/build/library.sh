@@ -68,8 +68,14 @@ make_library() {
 
 make_archives() {
     for crate in $(crates_of "$form"); do
-        (cd "crates/$crate" && rt lib) || return
+        make_archive "$crate" rt || return
     done
+}
+
+# For each x86-64 processor, since nothing in an archive tests on which it runs.
+# usage: make_archive CRATE RT
+make_archive() {
+    (cd "$repo/crates/$1" && "$2" lib --cpu x86-64)
 }
 
 # All their objects in one archive, each with its crate's name. Paths are relative, since llvm-ar's script has no quotes.
