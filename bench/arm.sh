@@ -1,17 +1,18 @@
 # Sourced by run: the port's code compiled for Arm, so that it can be timed there.
 
-# A kit of links to the real one, whose clang also keeps each LLVM module that it is given: the only way to the port's code for Arm.
+# A kit of links to the real one, whose clang also keeps each LLVM module that it is given: the only way to the port's code for Arm. rt
+# itself is copied, since it goes by where it is.
 build_library_and_keep_modules() {
     shadow=$work/kit
-    real=$kit/on/$machine
-    own=$shadow/on/$machine
     rm -rf "$shadow"
-    mkdir -p "$own/toolchain/bin"
-    link_all_but on "$kit" "$shadow"
-    link_all_but toolchain "$real" "$own"
-    link_all_but bin "$real/toolchain" "$own/toolchain"
-    link_all_but clang "$real/toolchain/bin" "$own/toolchain/bin"
-    write_script "$own/toolchain/bin/clang" <<SCRIPT
+    mkdir -p "$shadow/bin" "$shadow/toolchain/bin"
+    link_all "$kit" "$shadow"
+    link_all "$kit/bin" "$shadow/bin"
+    link_all "$kit/toolchain" "$shadow/toolchain"
+    link_all "$tools/bin" "$shadow/toolchain/bin"
+    rm "$shadow/bin/rt" "$shadow/bin/rtlib.py" "$shadow/toolchain/bin/clang"
+    cp "$kit/bin/rt" "$kit/bin/rtlib.py" "$shadow/bin/"
+    write_script "$shadow/toolchain/bin/clang" <<SCRIPT
 #!/bin/sh
 [ ! -f module.bc ] || cp module.bc '$modules/last.bc'
 exec '$tools/bin/clang' "\$@"
@@ -22,14 +23,15 @@ SCRIPT
 
 make_archives_and_keep_modules() {
     for crate in $(crates_of fast); do
-        RATTLE_HOME=$shadow rt staticlib "$crate" || return
+        make_archive "$crate" "$shadow/bin/rt" || return
         mv "$modules/last.bc" "$modules/$crate.bc" || return
     done
 }
 
-link_all_but() {
-    for file in "$2"/*; do
-        [ "${file##*/}" = "$1" ] || ln -s "$file" "$3/"
+# Links to all that a folder has, but for what is there already.
+link_all() {
+    for file in "$1"/*; do
+        [ -e "$2/${file##*/}" ] || ln -s "$file" "$2/"
     done
 }
 

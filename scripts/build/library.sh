@@ -18,14 +18,14 @@ take_form() {
     esac
 }
 
-# The crates of an archive, an object each: docs/DECISIONS.md says why these.
+# The crates of an archive, static libraries of an object each: docs/DECISIONS.md says why these.
 crates_of() {
     case $1 in
     fast)
-        echo "m16c_decode m16c_encode m16c_encode_manual m16c_sweep m16c_sweep_manual m16c_line m16c_line_manual m16c_length" \
-            "m16c_operand_number"
+        echo "m16c_decode_c m16c_encode_c m16c_encode_manual_c m16c_sweep_c m16c_sweep_manual_c m16c_line_c m16c_line_manual_c" \
+            "m16c_length_c m16c_operand_number_c"
         ;;
-    small) echo "m16c_small m16c_sweep m16c_small_manual m16c_sweep_manual" ;;
+    small) echo "m16c_small_c m16c_sweep_c m16c_small_manual_c m16c_sweep_manual_c" ;;
     esac
 }
 
@@ -56,7 +56,7 @@ check_library() {
     done
 }
 
-# Sets `library`, made of the archives that HOW leaves below target/staticlib.
+# Sets `library`, made of the archives that HOW leaves in the crates' out/.
 # usage: make_library HOW
 make_library() {
     run_shown "$repo/target/library.log" "$(crates_of "$form")" "$1" || {
@@ -68,8 +68,14 @@ make_library() {
 
 make_archives() {
     for crate in $(crates_of "$form"); do
-        rt staticlib "$crate" || return
+        make_archive "$crate" rt || return
     done
+}
+
+# For each x86-64 processor, since nothing in an archive tests on which it runs.
+# usage: make_archive CRATE RT
+make_archive() {
+    (cd "$repo/crates/$1" && "$2" lib --cpu x86-64)
 }
 
 # All their objects in one archive, each with its crate's name. Paths are relative, since llvm-ar's script has no quotes.
@@ -81,7 +87,7 @@ merge_archives() {
         cd "$repo/target"
         {
             echo "create $archive"
-            for crate in $(crates_of "$form"); do echo "addlib staticlib/lib$crate.a"; done
+            for crate in $(crates_of "$form"); do echo "addlib ../crates/$crate/out/lib$crate.a"; done
             echo save
             echo end
         } | "$tools/bin/llvm-ar" -M

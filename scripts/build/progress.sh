@@ -21,78 +21,50 @@ run_shown() {
     return "$status"
 }
 
-# The crates of the project that each of CRATES needs, and itself, none twice, in the order in which rt proves them: first those that
-# need nothing.
+# The crates of the project that each of CRATES needs, and itself, none twice, in the order in which rt proves them: each behind those that
+# it needs.
 crates_needed() {
     awk -v wanted="$1" '
-        function level(name,  needed, count, k, below, most) {
-            if (name in levels) return levels[name]
-            levels[name] = 0
+        function visit(name,  needed, count, k) {
+            if (seen[name]++) return
             count = split(needs[name], needed, " ")
-            for (k = 1; k <= count; k++) if (needed[k] in needs) {
-                below = level(needed[k])
-                if (below >= most) most = below + 1
-            }
-            visited[++visits] = name
-            return levels[name] = most + 0
-        }
-        function print_by_level(top,  k, l) {
-            for (l = 0; l <= top; l++)
-                for (k = 1; k <= visits; k++) if (levels[visited[k]] == l && !seen[visited[k]]++) print visited[k]
+            for (k = 1; k <= count; k++) if (needed[k] in needs) visit(needed[k])
+            print name
         }
         { sub(/#.*/, "") }
-        split($0, part, ":") == 2 { gsub(/[ \t]/, "", part[1]); needs[part[1]] = part[2] }
+        split($0, part, ":") == 2 { split(part[1], word, " "); needs[word[1]] = part[2] }
         END {
             count_wanted = split(wanted, want, " ")
-            for (w = 1; w <= count_wanted; w++) {
-                split("", levels)
-                visits = 0
-                print_by_level(level(want[w]))
-            }
+            for (w = 1; w <= count_wanted; w++) visit(want[w])
         }' "$repo/crates.txt"
 }
 
 # Until it is killed; it ends by itself where the script is gone.
 show_each_second() {
     named=
-    seen=
     while sleep 1 >/dev/null 2>&1 && kill -0 $$ 2>/dev/null; do
         show_crates
     done
 }
 
-# Names each crate up to the one that rt is at, but for those that were proved before. That one is named when it is seen for the second
-# time: until then rt may be finding out that it was.
+# Names each crate that rt has begun to prove, by its place among all; those that were proved before it passes without a word.
 show_crates() {
-    reported=$(reported_crates)
+    begun=$(begun_crates)
     count=0
     for crate in $plan; do
         count=$((count + 1))
-        case " $reported " in
-        *" $crate=unchanged "*) ;;
-        *" $crate=proved "*) name_crate ;;
-        *)
-            if [ "$seen" = "$crate" ]; then name_crate; fi
-            seen=$crate
-            return
-            ;;
-        esac
+        case " $named " in *" $crate "*) continue ;; esac
+        case " $begun " in *" $crate "*) ;; *) continue ;; esac
+        named="$named $crate"
+        show "$me: proving $crate ($count of $(echo "$plan" | wc -l))"
     done
 }
 
-name_crate() {
-    case " $named " in *" $crate "*) return ;; esac
-    named="$named $crate"
-    show "$me: proving $crate ($count of $(echo "$plan" | wc -l))"
-}
-
-# "CRATE=proved" or "CRATE=unchanged" of each crate that rt is done with, as it said first.
-reported_crates() {
+# What rt says as it begins a crate, or else of the crate when it has proved it.
+begun_crates() {
     awk '
-        $1 != "rt:" { next }
-        $3 == "proved" { state = $4 == "(unchanged" ? "unchanged" : "proved"; name = $2 }
-        $2 ~ /^target\/staticlib\/lib.*\.a$/ { state = "proved"; name = $2; sub(/.*\/lib/, "", name); sub(/\.a$/, "", name) }
-        name != "" && !seen[name]++ { printf "%s=%s ", name, state }' "$log"
+        /^rt: chose --jobs [0-9]+ for / { print $6 }
+        $1 == "crate" { sub(/:.*/, "", $2); print $2 }' "$log" | tr '\n' ' '
 }
 
 # On a terminal one line, which is written anew.

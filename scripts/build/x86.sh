@@ -1,5 +1,5 @@
 # Sourced by scripts that build programs for x86-64 in C or Rust, on x86-64 and on Arm; kit.sh is sourced before.
-# M16C_RUST in the environment names a folder to keep Debian's Rust in (default target/rust, which `rt ci` removes).
+# M16C_RUST in the environment names a folder to keep Debian's Rust in (default target/rust).
 
 # What is written here: commands for compiling, linking and running.
 commands=$repo/target/build
