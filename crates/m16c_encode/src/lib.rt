@@ -27,12 +27,7 @@ pub fn encode_numbers(numbers: &[u32], buf: &mut [u8], place: usize, manual: boo
 
 // Encodes the record of the first twelve numbers that m16c_decode fills, from a place of a buffer on. Taken, length and marked do not
 // count, nor what stands behind. Returns 0 and leaves the number of bytes written, or 5 or 6 with 0 and the buffer as it was.
-pub fn m16c_encode(
-    numbers: &[u32],
-    buf: &mut [u8],
-    place: usize,
-    bytes_written: &mut usize,
-) -> u32
+pub fn m16c_encode(numbers: &[u32], buf: &mut [u8], place: usize, bytes_written: &mut usize) -> u32
     ensures { EncodesNumbers document01 numbers.now buf.old place (outcome result bytes_written.new buf.new) }
 {
     let e = encode_numbers(numbers, buf, place, false);
