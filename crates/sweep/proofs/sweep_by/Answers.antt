@@ -1,16 +1,15 @@
 -- `sweep::sweep_by` meets its contract.
 -- Assumes nothing.
-use Rattle.std.proofs.Common.{◌≡◌, ℕ, ◌+◌, ◌-◌, ◌≤◌, ◌<◌, Bool, List, length, refl, sym, ap, ◌∙◌, arith}
+use Rattle.std.proofs.Common.{◌≡◌, ℕ, ◌+◌, ◌-◌, ◌≤◌, ◌<◌, List, length, refl, ap, ◌∙◌, arith}
 use borrow.Author.Tests.{lt-ltb, le-ltb}
 use Rattle.rows.specs.Row.{Table}
 use Rattle.rows.specs.Run.{decode_by}
-use Rattle.by_manual.specs.Table.{table_by}
 use Rattle.sweep.specs.declared.Rule.{Rule}
 use Rattle.sweep.specs.declared.Swept.{Swept}
 use Rattle.sweep.specs.declared.Stopped.{Stopped}
 use Rattle.sweep.specs.Walk.{walk}
-use Rattle.sweep.specs.Sweep.{Outcome, outcome, not_swept, whole, Sweeps}
-use Rattle.sweep.specs.steps.Before.{outcome_in, behind, Runs}
+use Rattle.sweep.specs.Sweep.{outcome, not_swept, whole, Sweeps}
+use Rattle.sweep.specs.steps.Before.{behind, Runs}
 use Rattle.sweep.proofs.Walk.{by_table}
 use Rattle.sweep.proofs.Before.{none_before}
 use Rattle.sweep.proofs.Runs.{Continues, continues}
