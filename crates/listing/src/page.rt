@@ -31,6 +31,7 @@ pub struct Page {
 }
 
 // An image of more than 4,096 bytes is refused.
+#[tactic(auto, unfolding(crate::specs::Listing::listing))]
 pub fn first(image: &[u8]) -> Next
     ensures { (manual : Bool) (rule : Rule) → to_list (table_by manual) rule image.now result ≡ listing (table_by manual) rule image.now }
 {

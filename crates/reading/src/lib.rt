@@ -24,3 +24,21 @@ pub fn read_full<R: Read>(input: &mut R, buf: &mut [u8]) -> io::Result<usize>
     }
     Ok(done)
 }
+
+#[cfg(test)]
+mod tests {
+    use super::*;
+    use std::test::Fail;
+
+    #[test]
+    fn short_reads_are_joined(rt: HostRuntime) -> Result<(), Fail> {
+        let mut input = b"ab".as_slice().chain(b"cde".as_slice());
+        let mut buf = [0u8; 4];
+        assert_eq!(rt; read_full(&mut input, &mut buf)?, 4);
+        assert_eq!(rt; buf, *b"abcd");
+        assert_eq!(rt; read_full(&mut input, &mut buf)?, 1);
+        assert_eq!(rt; buf[0], b'e');
+        assert_eq!(rt; read_full(&mut input, &mut buf)?, 0);
+        Ok(())
+    }
+}

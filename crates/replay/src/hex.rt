@@ -2,6 +2,7 @@
 ghost use Rattle.std.specs.Prelude.{◌≡◌, ◌+◌, ◌*◌, ◌<◌, ◌≤◌, length};
 ghost use Rattle.replay.specs.Hex.{is_digit, digit_of, digit_at, byte_at, word_at, long_at, bytes_at};
 
+#[tactic(auto, unfolding(crate::specs::Hex::is_digit))]
 pub(crate) fn is_digit(c: u8) -> bool
     ensures { result ≡ is_digit c }
 {
@@ -18,6 +19,7 @@ pub(crate) fn is_digit(c: u8) -> bool
 }
 
 // A character that is no digit counts as 0: whoever reads a number has seen before that each is one.
+#[tactic(auto, unfolding(crate::specs::Hex::is_digit, crate::specs::Hex::digit_of))]
 fn digit(c: u8) -> u8
     ensures { (result ≡ digit_of c) × (result < 16) }
 {

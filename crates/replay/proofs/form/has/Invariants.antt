@@ -1,12 +1,13 @@
--- `replay::form::has` meets its contract. The loop's invariant: every character passed fits the form.
-use Rattle.std.proofs.Common.{◌≡◌, ℕ, ◌-◌, ◌<◌, ◌≤◌, true, get_or, refl, arith, rules, below_none, below_more}
-use borrow.Author.Tests.{not-true, not-false}
+-- Every character passed fits the form.
+use Rattle.std.proofs.Common.{◌≡◌, ℕ, ◌-◌, ◌<◌, ◌≤◌, true, get_or}
 use Rattle.replay.specs.Form.{fits_at}
-use Rattle.replay.proofs.Answer.{not_both, refuted}
 use Rattle.replay.proofs.form.has.Given as goal
 
 abbrev pub invariant-loop-k : goal.invariant-loop-k
-invariant-loop-k l = (l.k ≤ 49) × ((j : ℕ) → j < l.k → fits_at (get_or l.form j 0) (get_or l.line j 0) ≡ true)
+invariant-loop-k l = record {
+  inside : l.k ≤ 49;
+  fitting : (j : ℕ) → j < l.k → fits_at (get_or l.form j 0) (get_or l.line j 0) ≡ true
+}
 
 abbrev pub decreases-loop-k : goal.decreases-loop-k
 decreases-loop-k l = 49 - l.k
