@@ -10,6 +10,8 @@ use native.Mathlib.Omega.{arith}
 use lib.Dec.{eqb}
 use lib.ListN.{length, get_or, take, drop, length-drop}
 use lib.Seq.{get_or-drop}
+use mir.Syntax.{w8}
+use mir.Val.{Fits}
 use Rattle.laws.specs.Choice.{pick}
 use Rattle.laws.specs.Range.{Each}
 use Rattle.laws.proofs.Agree.{Rest}
@@ -42,6 +44,11 @@ pub record There : Type 0 where
   pub room : entries ≤ length out
   pub long : 2 ≤ length image - place
   pub byte : (i : ℕ) → get_or image i 0 < 256
+
+-- as a function knows it
+abbrev pub there : (image : List ℕ) (place : ℕ) (out : List ℕ) → entries ≤ length out → 2 ≤ length image - place → ((i : ℕ) → Fits w8 (get_or image i 0)) → There
+there image place out room long fits =
+    record { image = image; place = place; out = out; room = room; long = long; byte = λ i. (fits i).fits }
 
 -- a row that a reading keeps: document 01's has them all
 abbrev Kept : Bool → Bool → Type 0

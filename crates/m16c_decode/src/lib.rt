@@ -1,5 +1,7 @@
 // The decoders for C, a crate of their own. Both choose the group by the first byte, and the group's function ends them: two functions
 // that only call share all of their code that is big, and cost less than one that has the groups inside.
+#![tactic(auto)]
+
 mod deliver; // an answer as numbers
 mod groups; // each group's answer, delivered
 
