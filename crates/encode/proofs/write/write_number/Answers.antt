@@ -1,4 +1,4 @@
--- `encode::write::write_number` meets its contract: three bytes, a place at a time.
+-- `encode::write::write_number` meets its contract: its bytes, a place at a time.
 -- Assumes nothing.
 use Prim.Native.Nat.{ℕ, ◌+◌, ◌≤◌}
 use mathlib.Core.Path.{◌≡◌, sym, ◌∙◌}
@@ -17,6 +17,16 @@ two l at a b h = one (set l at a) (at + 1) b (simp length-set (omega arith)) ∙
 
 three : (l : List ℕ) (at a b c : ℕ) → at + 3 ≤ length l → set (set (set l at a) (at + 1) b) (at + 1 + 1) c ≡ put at (a ∷ b ∷ c ∷ []) l
 three l at a b c h = two (set l at a) (at + 1) b c (simp length-set (omega arith)) ∙ sym (put_one at l a (b ∷ c ∷ []) (omega arith))
+
+pub returns-then-n-eq1 : goal.returns-then-n-eq1
+returns-then-n-eq1 c =
+    let e = c.if-n-eq1.true in
+    rw e (one c.args.out.now c.args.at _ (omega (arith, c.requires.1)))
+
+pub returns-then-n-eq2 : goal.returns-then-n-eq2
+returns-then-n-eq2 c =
+    let e = c.if-n-eq2.true in
+    rw e (two c.args.out.now c.args.at _ _ (omega (arith, c.requires.1)))
 
 pub returns : goal.returns
 returns c =
