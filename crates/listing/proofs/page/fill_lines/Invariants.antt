@@ -1,5 +1,5 @@
 -- What is filled, and what is listed from the place on, are what was asked for.
-use Rattle.std.proofs.Common.{◌≡◌, ℕ, ◌+◌, ◌*◌, ◌-◌, ◌≤◌, ◌++◌, length, take}
+use Rattle.std.proofs.Common.{◌≡◌, ◌+◌, ◌*◌, ◌-◌, ◌≤◌, ◌++◌, length, take}
 use Rattle.by_manual.specs.Table.{table_by}
 use Rattle.listing.specs.Listing.{listed}
 use Rattle.listing.proofs.page.fill_lines.Given as goal
@@ -11,7 +11,7 @@ invariant-loop-out l = record {
   on : l.from ≤ l.place;
   within : l.place ≤ l.from + (length l.image - l.from);
   short : l.at ≤ 121 * (l.place - l.from);
-  same : take l.at l.out ++ listed (table_by l.manual) l.rule l.image l.place ≡ listed (table_by l.manual) l.rule l.image l.from
+  same : take l.at l.out ++ listed (table_by l.manual) l.rule l.image l.place ≡ listed (table_by l.manual) l.rule l.image l.from;
 }
 
 abbrev pub decreases-loop-out : goal.decreases-loop-out
