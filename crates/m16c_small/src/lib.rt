@@ -1,5 +1,7 @@
 // The functions for C of the small archive: in one crate, and so in one object, where the decoder stands once. The sweep is not among
 // them: it keeps no record, and behind a decoder that makes one it takes over three times its instructions.
+#![tactic(auto)]
+
 ghost use Rattle.rows.specs.Groups.{document01};
 ghost use Rattle.m16c_decode.specs.Decoded.{Decodes};
 ghost use Rattle.encode_rules.specs.Written.{outcome};
@@ -16,12 +18,7 @@ pub fn m16c_decode(image: &[u8], at: usize, out: &mut [u32]) -> u32
     m16c_decode::decode_into(false, image, at, out)
 }
 
-pub fn m16c_encode(
-    numbers: &[u32],
-    buf: &mut [u8],
-    place: usize,
-    bytes_written: &mut usize,
-) -> u32
+pub fn m16c_encode(numbers: &[u32], buf: &mut [u8], place: usize, bytes_written: &mut usize) -> u32
     ensures { EncodesNumbers document01 numbers.now buf.old place (outcome result bytes_written.new buf.new) }
 {
     m16c_encode::m16c_encode(numbers, buf, place, bytes_written)

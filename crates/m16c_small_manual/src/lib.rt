@@ -1,5 +1,7 @@
 // The functions by the manual of the small archive: in one crate, and so in one object, where the decoder by the manual stands once. Those by
 // document 01 are another: a program that goes by one reading has nothing of the other.
+#![tactic(auto)]
+
 ghost use Rattle.by_manual.specs.Table.{by_manual};
 ghost use Rattle.m16c_decode.specs.Decoded.{Decodes};
 ghost use Rattle.encode_rules.specs.Written.{outcome};
@@ -23,12 +25,7 @@ pub fn m16c_encode_manual(
     m16c_encode_manual::m16c_encode_manual(numbers, buf, place, bytes_written)
 }
 
-pub fn m16c_line_manual(
-    image: &[u8],
-    at: usize,
-    out: &mut [u8],
-    line_length: &mut usize,
-) -> u32
+pub fn m16c_line_manual(image: &[u8], at: usize, out: &mut [u8], line_length: &mut usize) -> u32
     ensures { Lines by_manual image.now at out.old result line_length.new out.new }
 {
     m16c_line_manual::m16c_line_manual(image, at, out, line_length)
