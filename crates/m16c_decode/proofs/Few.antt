@@ -13,7 +13,7 @@ use Rattle.m16c_decode.specs.Decoded.{entries, Decodes}
 use Rattle.m16c_decode.specs.steps.Filled.{Small, Filled}
 use Rattle.m16c_decode.proofs.Small.{asks, keeps}
 
-alike : (m : Bool) (bs : List ℕ) → length bs < 2 → decode_rows bs ≡ decode_by (table_by m) bs
+pub alike : (m : Bool) (bs : List ℕ) → length bs < 2 → decode_rows bs ≡ decode_by (table_by m) bs
 alike false bs l = refl
 alike true [] l = sym none_alike
 alike true (a ∷ []) l = sym (one_alike a)

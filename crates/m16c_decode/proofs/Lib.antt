@@ -5,3 +5,4 @@ pub mod Passed
 pub mod Grouped
 pub mod Few
 pub mod There
+pub mod TwoBytes
