@@ -13,12 +13,7 @@ use std::io::{Read, Write};
 use sweep::Rule;
 
 // The buffer has a byte more than an image may have, so that a longer one is told.
-fn list<R: Read, W: Write>(
-    manual: bool,
-    rule: Rule,
-    input: &mut R,
-    out: &mut W,
-) -> io::Result<()> {
+fn list<R: Read, W: Write>(manual: bool, rule: Rule, input: &mut R, out: &mut W) -> io::Result<()> {
     let mut image = [0u8; 4097];
     let n = reading::read_full(input, &mut image)?;
     listing::list(manual, rule, &image[..n], out)
@@ -52,6 +47,8 @@ fn main(rt: HostRuntime) -> io::Result<()> {
     let m = word(&rt, 2, &mut second);
     match asked::by_words(word_count(&rt), &first[..n], &second[..m]) {
         Asked::By(manual, rule) => list(manual, rule, &mut rt.stdin(), &mut rt.stdout()),
-        Asked::Unknown => eprintln!(rt; "list_image: an image comes from standard input, the only arguments are --stopping and, behind it or alone, --manual"),
+        Asked::Unknown => eprintln!(rt;
+            "list_image: an image comes from standard input, the only arguments are --stopping and, behind it or alone, --manual"
+        ),
     }
 }

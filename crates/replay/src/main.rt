@@ -149,7 +149,10 @@ fn report<W: Write>(t: Tally, out: &mut W) -> io::Result<()> {
     let first_malformed = t.first_malformed;
     if t.any_malformed() {
         writeln!(out, "first malformed line: {first_malformed}")?;
-        return writeln!(out, "{answers} answers, {differ} differ, {malformed} malformed");
+        return writeln!(
+            out,
+            "{answers} answers, {differ} differ, {malformed} malformed"
+        );
     }
     writeln!(out, "{answers} answers, {differ} differ")
 }

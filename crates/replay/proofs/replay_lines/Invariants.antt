@@ -6,7 +6,7 @@ use Rattle.replay.proofs.replay_lines.Given as goal
 abbrev pub invariant-loop-at : goal.invariant-loop-at
 invariant-loop-at g l = record {
   inside : l.at ≤ length l.text;
-  counted : Tallied l.text l.at l.initial.tally l.tally
+  counted : Tallied l.text l.at l.initial.tally l.tally;
 }
 
 abbrev pub decreases-loop-at : goal.decreases-loop-at

@@ -7,7 +7,7 @@ abbrev pub invariant-loop-k : goal.invariant-loop-k
 invariant-loop-k l = record {
   inside : l.k ≤ length l.out;
   same_length : length l.out ≡ length l.initial.out;
-  passed : take l.k l.out ≡ bytes_at l.k l.text l.at
+  passed : take l.k l.out ≡ bytes_at l.k l.text l.at;
 }
 
 abbrev pub decreases-loop-k : goal.decreases-loop-k

@@ -1,6 +1,6 @@
 -- A place that a set bit names has to be the last start that is left; a bit that is not set changes nothing.
 use Rattle.std.proofs.Common.{◌≡◌, ℕ, suc, ◌-◌, ◌<◌, length, sym, subst, arith}
-use Rattle.replay.specs.Sweeping.{places, Begins}
+use Rattle.replay.specs.Sweeping.{Begins}
 use Rattle.replay.proofs.Answer.{refuted}
 use Rattle.replay.proofs.Places.{none_left, unset, there, down, up, at_end}
 use Rattle.replay.proofs.sweeping.are_bits.Goals.{then-rest-eq1+else-left-eq0+else-starts-left+else-starts-left-2, else-rest-eq1}
@@ -28,7 +28,7 @@ loop-place-preserved c =
     let starts = c.args.starts.now in
     let p = passed l.place c.loop-place-test.true in
     elim c.if-rest-eq1.branch [
-      then-rest-eq1+else-left-eq0+else-starts-left+else-starts-left-2 w ↦
+      | then-rest-eq1+else-left-eq0+else-starts-left+else-starts-left-2 w ↦
           let less : l.left ≡ suc (l.left - 1) = omega arith in
           let inside : l.left - 1 < length starts = omega arith in
           rw w.left-is
@@ -37,7 +37,7 @@ loop-place-preserved c =
             down = λ b. down starts l.rest p w.if-rest-eq1.true less inside (l.invariant.down b);
             up = λ b. l.invariant.up (up starts l.rest p w.if-rest-eq1.true less inside w.if-starts-left-2.false b);
           })
-    | else-rest-eq1 w ↦
+      | else-rest-eq1 w ↦
           let same = unset starts l.rest p w.if-rest-eq1.false in
           rw w.left-is
           (record {

@@ -7,7 +7,7 @@ abbrev pub invariant-loop-place : goal.invariant-loop-place
 invariant-loop-place l = record {
   inside : l.place ≤ 16;
   down : Begins l.count l.starts (places 16 l.bits) → Begins l.left l.starts (places l.place l.rest);
-  up : Begins l.left l.starts (places l.place l.rest) → Begins l.count l.starts (places 16 l.bits)
+  up : Begins l.left l.starts (places l.place l.rest) → Begins l.count l.starts (places 16 l.bits);
 }
 
 abbrev pub decreases-loop-place : goal.decreases-loop-place
