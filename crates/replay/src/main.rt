@@ -75,9 +75,8 @@ fn judge(line: &[u8]) -> Verdict
 
 // A failed write is passed over here: the line that counts the answers is written to the same place, and tells of a failure.
 fn show_first<W: Write>(line: &[u8], out: &mut W) {
-    if out.write_all(b"first: ").is_ok() {
-        let _ = out.write_all(line);
-    }
+    let _ = out.write_all(b"first: ");
+    let _ = out.write_all(line);
 }
 
 // The first line that differs is written when it is met, so that no later step has to keep it.
