@@ -1,4 +1,6 @@
 // The names that go with an opcode in a changed row: by width the sets of operand 0's names, with the size, and of operand 1's.
+#![tactic(auto, using(crate::proofs::InSets::told_sets), unfolding(crate::proofs::InSets::are_sets, record::specs::Same::among, record::specs::Same::same_name))]
+
 ghost use Rattle.std.specs.Prelude.{◌≡◌};
 ghost use Rattle.record.specs.declared.Width.TheVariants.{None, B, W};
 ghost use Rattle.encode_added.specs.steps.Entries as entries;
