@@ -8,18 +8,16 @@ version() {
     }
 }
 
-# "NUMBER NAME" of each name of an enum of the record; the function that numbers it is proved.
+# "NUMBER NAME" of each name of an enum of the record, by the definition that its conversion to a number is proved to be.
 numbered() {
-    awk -v enum="$1" '$1 ~ "^" enum "::" && $2 == "=>" { sub(/.*::/, "", $1); print $3 + 0, $1 }' "$repo/crates/record/src/numbers.rt"
+    awk -v enum="$1" '$1 == tolower(enum) "_no" && $3 == "=" { sub(/.*\./, "", $2); print $4, $2 }' "$repo/crates/record/specs/Numbers.antt"
 }
 
-# "NUMBER NAME MEANING" of each refusal, a constant of the record.
+# "NUMBER NAME MEANING" of each refusal, and of 0, which is none.
 numbered_refusals() {
-    awk '$2 == "const" {
-        number = $6; sub(/;/, "", number)
-        name = ""; sub(/:/, "", $3)
-        parts = split(tolower($3), part, "_")
-        for (i = 1; i <= parts; i++) name = name toupper(substr(part[i], 1, 1)) substr(part[i], 2)
+    echo "0 Accepted done"
+    awk '$2 == "=" && $4 == "//" {
+        name = $1; number = $3; sub(/,/, "", number)
         sub(/^.*\/\/ /, "")
         print number, name, $0
     }' "$repo/crates/record/src/refusal.rt"

@@ -7,7 +7,7 @@ use mathlib.Core.List.{List}
 use mathlib.Core.Bool.{Bool, true, false, false≢true}
 use Rattle.laws.specs.Choice.{pick}
 use Rattle.laws.proofs.Agree.{agree}
-use Rattle.record.specs.declared.Answer.{Answer}
+use Rattle.record.specs.Answer.{Answer}
 use Rattle.rows.specs.Row.{Row}
 use Rattle.rows.specs.Groups.{known, document01}
 use Rattle.rows.specs.Run.{run_row}

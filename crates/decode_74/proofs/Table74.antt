@@ -4,7 +4,7 @@ use Prim.Native.Nat.{ℕ, zero, suc, ◌<◌}
 use mathlib.Core.Path.{◌≡◌, refl}
 use mathlib.Core.List.{List, [], ◌∷◌}
 use Rattle.laws.proofs.Agree.{agree}
-use Rattle.record.specs.declared.Answer.{Answer}
+use Rattle.record.specs.Answer.{Answer}
 use Rattle.record.specs.declared.Width.{Width}
 use Rattle.record.specs.declared.Seen.{Seen}
 use Rattle.rows.specs.Row.{Num, disp, imm, imm20, num, Face}

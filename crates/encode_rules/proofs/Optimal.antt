@@ -10,7 +10,7 @@ use native.Mathlib.Decide.{ℕ_discrete}
 use borrow.Author.Tests.{eqb-true, eq-eqb}
 use Rattle.laws.specs.Choice.{pick}
 use Rattle.record.specs.declared.Record.{Record}
-use Rattle.record.specs.declared.Answer.{Answer}
+use Rattle.record.specs.Answer.{Answer}
 use Rattle.record.specs.Numbers.{opcode_no, size_no, width_no, operand_no}
 use Rattle.record.specs.declared.Key.{Key}
 use Rattle.record.specs.Same.{key}

@@ -1,6 +1,6 @@
 -- Document 01, "Bench lines": the lines marked P, with the parts of request A5, and what request A6 says of encoding, as one table.
 use Rattle.std.specs.Prelude.{ℕ, ◌≡◌, Bool, true, false, List, [], ◌∷◌}
-use Rattle.record.specs.declared.Answer.{Answer}
+use Rattle.record.specs.Answer.{Answer}
 use Rattle.record.specs.declared.Opcode.TheVariants.{STE, ROT, MUL, BMGE, LDIPL}
 use Rattle.record.specs.declared.Size.TheVariants as size
 use Rattle.record.specs.declared.Width.TheVariants.{None, B, W}

@@ -7,7 +7,7 @@ use mathlib.Core.List.{List, ◌∷◌}
 use mathlib.Core.Logic.{◌⊎◌, inl, inr}
 use native.Mathlib.Omega.{arith}
 use lib.Dec.{leb, leb→le}
-use Rattle.record.specs.declared.Answer.{Answer}
+use Rattle.record.specs.Answer.{Answer}
 use Rattle.laws.proofs.Choice.{both_left}
 use Rattle.rows.specs.Row.{Table}
 use Rattle.rows.specs.Fate.{most_taken, reach}

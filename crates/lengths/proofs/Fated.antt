@@ -8,7 +8,7 @@ use mathlib.Core.List.{List, [], ◌∷◌}
 use native.Mathlib.Omega.{arith}
 use lib.ListN.{length}
 use lib.Dec.{T, eqb, leb, leb→le, eqb→eq}
-use Rattle.record.specs.declared.Answer.{Answer}
+use Rattle.record.specs.Answer.{Answer}
 use Rattle.laws.specs.Choice.{both}
 use Rattle.laws.proofs.Choice.{both_left, both_right}
 use Rattle.rows.specs.Row.{Refusal, InvalidOpcode, InvalidOperand, refusal_no, Read, num, cond, stop, Table}

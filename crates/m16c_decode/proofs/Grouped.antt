@@ -10,7 +10,7 @@ use lib.Dec.{eqb}
 use borrow.Author.Tests.{le-ltb, lt-ltb, ne_eqb}
 use Rattle.laws.specs.Choice.{pick, either}
 use Rattle.laws.proofs.Agree.{Rest}
-use Rattle.record.specs.declared.Answer.{Answer}
+use Rattle.record.specs.Answer.{Answer}
 use Rattle.record.specs.declared.Opcode.{Opcode}
 use Rattle.rows.specs.Pairs.{two}
 use Rattle.rows.specs.RegisterList.{list}

@@ -7,7 +7,7 @@ use native.Mathlib.Omega.{arith}
 use lib.ListN.{length, take, drop}
 use borrow.Rule.Slice.PartMut.{put_mid}
 use Rattle.laws.proofs.Rest.{rest, given_back}
-use Rattle.record.specs.declared.Answer.{Answer}
+use Rattle.record.specs.Answer.{Answer}
 use Rattle.rows.specs.Row.{Row}
 use Rattle.rows.specs.Run.{run_row}
 use Rattle.m16c_decode.specs.Decoded.{entries, numbers_of}

@@ -14,7 +14,7 @@ use Rattle.rows.proofs.Taken.{counted}
 use Rattle.rows.proofs.Third.{no_third}
 use Rattle.by_manual.specs.Table.{table_by}
 use Rattle.by_manual.proofs.Passing.{seven_by}
-use Rattle.record.specs.declared.Answer.{Answer}
+use Rattle.record.specs.Answer.{Answer}
 use Rattle.m16c_decode.specs.Decoded.{entries, numbers_of, decoded, Decodes}
 use Rattle.m16c_decode.specs.steps.Filled.{Small, Filled}
 

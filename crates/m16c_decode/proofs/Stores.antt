@@ -8,7 +8,7 @@ use lib.ListN.{length, take, drop, set, length-drop, length-set}
 use lib.Seq.{sets-eq, drop-drop, drop-set-add}
 use Rattle.laws.specs.Over.{put}
 use Rattle.laws.proofs.Over.{put_whole}
-use Rattle.record.specs.declared.Answer.{Answer}
+use Rattle.record.specs.Answer.{Answer}
 use Rattle.record.specs.declared.Parts.{Parts}
 use Rattle.m16c_decode.specs.Decoded.{entries, parts_from, registers_from, part_numbers, numbers_of}
 

@@ -17,7 +17,7 @@ use Rattle.laws.specs.Range.{Each}
 use Rattle.laws.proofs.Agree.{Rest}
 use Rattle.laws.proofs.Range.{each_from}
 use Rattle.laws.proofs.Rest.{rest}
-use Rattle.record.specs.declared.Answer.{Answer}
+use Rattle.record.specs.Answer.{Answer}
 use Rattle.record.specs.declared.Width.{Width}
 use Rattle.rows.specs.Row.{Row}
 use Rattle.rows.specs.Pairs.{two}

@@ -12,7 +12,7 @@ use lib.Seq.{get_or-drop}
 use Rattle.laws.specs.Choice.{pick}
 use Rattle.laws.proofs.Agree.{Rest}
 use Rattle.laws.proofs.Rest.{rest}
-use Rattle.record.specs.declared.Answer.{Answer}
+use Rattle.record.specs.Answer.{Answer}
 use Rattle.rows.specs.Row.{Row}
 use Rattle.rows.specs.Groups.{known, document01}
 use Rattle.rows.specs.Run.{decode_by, decode_rows, refusal, run_row}

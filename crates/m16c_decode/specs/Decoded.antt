@@ -1,7 +1,7 @@
 -- What m16c_decode and m16c_decode_manual return, and leave in the list passed in, by a table of rows.
 use Rattle.std.specs.Prelude.{ℕ, ◌≡◌, Bool, true, false, List, [], ◌∷◌, ◌++◌, length, drop, ltb}
 use Rattle.laws.specs.Choice.{pick}
-use Rattle.record.specs.declared.Answer.{Answer}
+use Rattle.record.specs.Answer.{Answer}
 use Rattle.record.specs.declared.Parts.{Parts}
 use Rattle.record.specs.Numbers.{opcode_no, size_no, width_no, operand_no}
 use Rattle.rows.specs.Row.{Table}

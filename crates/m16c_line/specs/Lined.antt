@@ -1,7 +1,7 @@
 -- What m16c_line and m16c_line_manual return and leave, by a table of rows.
 use Rattle.std.specs.Prelude.{ℕ, ◌≡◌, List, drop, eqb}
 use Rattle.laws.specs.Choice.{pick}
-use Rattle.record.specs.declared.Answer.{Answer}
+use Rattle.record.specs.Answer.{Answer}
 use Rattle.rows.specs.Row.{Table}
 use Rattle.rows.specs.Run.{decode_by}
 use Rattle.line.specs.Line.{line_of}

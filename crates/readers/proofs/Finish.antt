@@ -4,13 +4,13 @@ use Prim.Native.Nat.{ℕ}
 use mathlib.Core.Path.{◌≡◌, sym, ◌∙◌}
 use mathlib.Core.Bool.{Bool}
 use mathlib.Core.List.{List, [], ◌∷◌}
-use Rattle.record.specs.declared.Answer.{Answer}
+use Rattle.record.specs.Answer.{Answer}
 use Rattle.record.specs.declared.Opcode.{Opcode}
 use Rattle.record.specs.declared.Size.{Size}
 use Rattle.record.specs.declared.Width.{Width}
 use Rattle.record.specs.declared.Operand.{Operand}
 use Rattle.record.specs.declared.Seen.{Seen}
-use Rattle.record.specs.declared.Got.{Got}
+use Rattle.record.specs.Answer.{Got}
 use Rattle.rows.specs.Row.{Num, disp, num, Face}
 use Rattle.rows.specs.Run.{reading, read_disp, and_then, accepted_by, accepted, run}
 

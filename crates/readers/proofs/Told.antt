@@ -12,8 +12,8 @@ use borrow.Author.Tests.{eqb-true}
 use Rattle.laws.specs.Choice.{pick}
 use Rattle.record.specs.declared.Parts.{Parts}
 use Rattle.record.specs.declared.Seen.{Seen}
-use Rattle.record.specs.declared.Got.{Got}
-use Rattle.record.specs.declared.Got.TheVariants.{On, Short}
+use Rattle.record.specs.Answer.{Got}
+use Rattle.record.specs.Answer.{On, Short}
 use Rattle.rows.specs.Row.{Num, disp, imm, imm20}
 use Rattle.rows.specs.Codes.{size_G}
 use Rattle.rows.specs.Fate.{bytes_of}

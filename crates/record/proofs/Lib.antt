@@ -5,3 +5,4 @@ pub mod Arms
 pub mod Three
 pub mod Same
 pub mod Counted
+pub mod Equal

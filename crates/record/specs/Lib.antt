@@ -5,3 +5,4 @@ pub mod Numbered
 pub mod Blank
 pub mod Same
 pub mod Signed
+pub mod Answer

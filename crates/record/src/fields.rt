@@ -1,11 +1,11 @@
 // Where a record holds the number of each operand.
 ghost use Rattle.std.specs.Prelude.{◌≡◌};
-ghost use Rattle.record.specs.Same.{same_name, field_of, shared, field_at, value_of, key};
+ghost use Rattle.record.specs.Same.{field_of, shared, field_at, value_of, key};
 
-use crate::{Operand, Record, numbers};
+use crate::{Operand, Record};
 
 // No number; `imm_wide`; `dispabs`; `first`.
-#[derive(Clone, Copy)]
+#[derive(Clone, Copy, PartialEq, Eq)]
 pub enum Field {
     Nowhere,
     Wide,
@@ -20,13 +20,8 @@ pub struct Numbers {
     pub number2: u32,
 }
 
-pub fn same_name(a: Operand, b: Operand) -> bool
-    ensures { result ≡ same_name a b }
-{
-    numbers::operand_number(a) == numbers::operand_number(b)
-}
-
 // The field that a name asks for.
+#[tactic(auto, unfolding(crate::specs::Same::field_of, crate::specs::Same::among, crate::specs::Same::same_name))]
 pub fn field_of(o: Operand) -> Field
     ensures { result ≡ field_of o }
 {
@@ -99,7 +94,7 @@ pub fn field_at(r: Record, k: usize) -> Field
     let op0 = r.op0;
     let op1 = r.op1;
     let op2 = r.op2;
-    let on_stack = same_name(op0, Operand::Disp8_SP);
+    let on_stack = op0 == Operand::Disp8_SP;
     if k == 0 {
         return shared_field(op0, op1, !on_stack);
     }

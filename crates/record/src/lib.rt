@@ -7,9 +7,9 @@ pub mod numbers; // the number of each name
 pub mod names; // the name of each number
 pub mod fields; // where the number of each operand is
 pub mod signed; // the number of each operand as it is counted
-pub mod refusal; // what a function returns
+pub mod refusal; // why a function refuses
 
-#[derive(Clone, Copy)]
+#[derive(Clone, Copy, PartialEq, Eq)]
 pub enum Opcode {
     NOP,
     ABS,
@@ -112,7 +112,7 @@ pub enum Opcode {
 }
 
 // The size that an opcode carries, `.B`, `.W` or `.L` in the listing.
-#[derive(Clone, Copy)]
+#[derive(Clone, Copy, PartialEq, Eq)]
 pub enum Size {
     None,
     B,
@@ -121,14 +121,14 @@ pub enum Size {
 }
 
 // The width that decoding starts with, by the first byte.
-#[derive(Clone, Copy)]
+#[derive(Clone, Copy, PartialEq, Eq)]
 pub enum Width {
     None,
     B,
     W,
 }
 
-#[derive(Clone, Copy)]
+#[derive(Clone, Copy, PartialEq, Eq)]
 pub enum Operand {
     Nothing,
     Imm4,
@@ -190,14 +190,14 @@ pub enum Operand {
 }
 
 // Where a number stands in the bytes of an instruction, and how many bytes it has there. Both are 0 if none behind the second was read for it.
-#[derive(Clone, Copy)]
+#[derive(Clone, Copy, PartialEq, Eq)]
 pub struct Part {
     pub offset: u8,
     pub width: u8,
 }
 
 // The part of each number that a record holds.
-#[derive(Clone, Copy)]
+#[derive(Clone, Copy, PartialEq, Eq)]
 pub struct Parts {
     pub first: Part,
     pub dispabs: Part,
@@ -273,14 +273,6 @@ pub struct Key {
     pub number2: u32,
 }
 
-// Refusal 0 and the record, or a refusal's number and the blank record; and the bytes taken, either way.
-#[derive(Clone, Copy)]
-pub struct Answer {
-    pub inst: Record,
-    pub taken: usize,
-    pub refusal: u8,
-}
-
 // What a row's reads pass on from one to the next: the numbers read so far, whether imm_wide lost bits, where the numbers stand, and the bytes
 // taken.
 #[derive(Clone, Copy)]
@@ -291,11 +283,4 @@ pub struct Seen {
     pub first: u16,
     pub dropped: bool,
     pub taken: usize,
-}
-
-// A read went on, or too few bytes were left.
-#[derive(Clone, Copy)]
-pub enum Got {
-    On(Seen),
-    Short,
 }

@@ -1,196 +1,37 @@
 // The number of each name: its place in its enum.
-// Made by scripts/tables/make-names from the enums of crates/record/src/lib.rt.
 ghost use Rattle.std.specs.Prelude.{◌≡◌};
 ghost use Rattle.record.specs.Numbers.{opcode_no, size_no, width_no, operand_no};
 
 use crate::{Opcode, Operand, Size, Width};
 
-pub fn opcode_number(x: Opcode) -> u32
-    ensures { result ≡ opcode_no x }
-{
-    match x {
-        Opcode::NOP => 0,
-        Opcode::ABS => 1,
-        Opcode::ADC => 2,
-        Opcode::ADCF => 3,
-        Opcode::ADD => 4,
-        Opcode::AND => 5,
-        Opcode::BAND => 6,
-        Opcode::BCLR => 7,
-        Opcode::BMEQ => 8,
-        Opcode::BMGEU => 9,
-        Opcode::BMGT => 10,
-        Opcode::BMGTU => 11,
-        Opcode::BMLE => 12,
-        Opcode::BMLEU => 13,
-        Opcode::BMLTU => 14,
-        Opcode::BMLT => 15,
-        Opcode::BMNO => 16,
-        Opcode::BMGE => 17,
-        Opcode::BMN => 18,
-        Opcode::BMNE => 19,
-        Opcode::BMO => 20,
-        Opcode::BMPZ => 21,
-        Opcode::BNAND => 22,
-        Opcode::BNOR => 23,
-        Opcode::BNOT => 24,
-        Opcode::BNTST => 25,
-        Opcode::BNXOR => 26,
-        Opcode::BOR => 27,
-        Opcode::BSET => 28,
-        Opcode::BTST => 29,
-        Opcode::BTSTC => 30,
-        Opcode::BTSTS => 31,
-        Opcode::BXOR => 32,
-        Opcode::CMP => 33,
-        Opcode::DADC => 34,
-        Opcode::DADD => 35,
-        Opcode::DIV => 36,
-        Opcode::DIVU => 37,
-        Opcode::DIVX => 38,
-        Opcode::DSBB => 39,
-        Opcode::DSUB => 40,
-        Opcode::ENTER => 41,
-        Opcode::EXITD => 42,
-        Opcode::EXTS => 43,
-        Opcode::FCLR => 44,
-        Opcode::FSET => 45,
-        Opcode::GE => 46,
-        Opcode::INT => 47,
-        Opcode::JGE => 48,
-        Opcode::JGT => 49,
-        Opcode::JLE => 50,
-        Opcode::JLT => 51,
-        Opcode::JMPI => 52,
-        Opcode::JNO => 53,
-        Opcode::JO => 54,
-        Opcode::JSRI => 55,
-        Opcode::LDC => 56,
-        Opcode::LDCTX => 57,
-        Opcode::LDE => 58,
-        Opcode::LDIPL => 59,
-        Opcode::LT => 60,
-        Opcode::MOV => 61,
-        Opcode::MOVA => 62,
-        Opcode::MOVHH => 63,
-        Opcode::MOVHL => 64,
-        Opcode::MOVLH => 65,
-        Opcode::MOVLL => 66,
-        Opcode::MUL => 67,
-        Opcode::MULU => 68,
-        Opcode::NEG => 69,
-        Opcode::NO => 70,
-        Opcode::NOT => 71,
-        Opcode::OR => 72,
-        Opcode::POP => 73,
-        Opcode::POPC => 74,
-        Opcode::POPM => 75,
-        Opcode::PUSH => 76,
-        Opcode::PUSHA => 77,
-        Opcode::PUSHC => 78,
-        Opcode::PUSHM => 79,
-        Opcode::RMPA => 80,
-        Opcode::ROLC => 81,
-        Opcode::RORC => 82,
-        Opcode::ROT => 83,
-        Opcode::SBB => 84,
-        Opcode::SHA => 85,
-        Opcode::SHL => 86,
-        Opcode::SMOVB => 87,
-        Opcode::SMOVF => 88,
-        Opcode::SSTR => 89,
-        Opcode::STC => 90,
-        Opcode::STCTX => 91,
-        Opcode::STE => 92,
-        Opcode::SUB => 93,
-        Opcode::TST => 94,
-        Opcode::WAIT => 95,
-        Opcode::XCHG => 96,
-        Opcode::XOR => 97,
+impl From<Opcode> for u32 {
+    ghost from_gives = { λ x r. r ≡ opcode_no x };
+
+    fn from(x: Opcode) -> u32 {
+        x as u32
     }
 }
 
-pub fn size_number(x: Size) -> u32
-    ensures { result ≡ size_no x }
-{
-    match x {
-        Size::None => 0,
-        Size::B => 1,
-        Size::W => 2,
-        Size::L => 3,
+impl From<Size> for u32 {
+    ghost from_gives = { λ x r. r ≡ size_no x };
+
+    fn from(x: Size) -> u32 {
+        x as u32
     }
 }
 
-pub fn width_number(x: Width) -> u32
-    ensures { result ≡ width_no x }
-{
-    match x {
-        Width::None => 0,
-        Width::B => 1,
-        Width::W => 2,
+impl From<Width> for u32 {
+    ghost from_gives = { λ x r. r ≡ width_no x };
+
+    fn from(x: Width) -> u32 {
+        x as u32
     }
 }
 
-pub fn operand_number(x: Operand) -> u32
-    ensures { result ≡ operand_no x }
-{
-    match x {
-        Operand::Nothing => 0,
-        Operand::Imm4 => 1,
-        Operand::Imm8 => 2,
-        Operand::Imm16 => 3,
-        Operand::R0L => 4,
-        Operand::R0H => 5,
-        Operand::R1L => 6,
-        Operand::R1H => 7,
-        Operand::R0 => 8,
-        Operand::R1 => 9,
-        Operand::R2 => 10,
-        Operand::R3 => 11,
-        Operand::R2R0 => 12,
-        Operand::R3R1 => 13,
-        Operand::A0 => 14,
-        Operand::A1 => 15,
-        Operand::A1A0 => 16,
-        Operand::Bit_R0 => 17,
-        Operand::Bit_R1 => 18,
-        Operand::Bit_R2 => 19,
-        Operand::Bit_R3 => 20,
-        Operand::Bit_A0 => 21,
-        Operand::Bit_A1 => 22,
-        Operand::Bit_Deref_A0 => 23,
-        Operand::Bit_Deref_A1 => 24,
-        Operand::Bit_Disp8_A0 => 25,
-        Operand::Bit_Disp8_A1 => 26,
-        Operand::Bit_Disp8_SB => 27,
-        Operand::Bit_Disp8_FB => 28,
-        Operand::Bit_Disp16_A0 => 29,
-        Operand::Bit_Disp16_A1 => 30,
-        Operand::Bit_Disp16_SB => 31,
-        Operand::Bit_Abs16 => 32,
-        Operand::Disp8_A0 => 33,
-        Operand::Disp8_A1 => 34,
-        Operand::Disp8_SB => 35,
-        Operand::Disp8_FB => 36,
-        Operand::Disp8_SP => 37,
-        Operand::Disp16_A0 => 38,
-        Operand::Disp16_A1 => 39,
-        Operand::Disp16_SB => 40,
-        Operand::Disp20_A0 => 41,
-        Operand::Disp20_A1 => 42,
-        Operand::Deref_A0 => 43,
-        Operand::Deref_A1 => 44,
-        Operand::Deref_A1A0 => 45,
-        Operand::Abs16 => 46,
-        Operand::Abs20 => 47,
-        Operand::Disp8 => 48,
-        Operand::RegList => 49,
-        Operand::INTBL => 50,
-        Operand::INTBH => 51,
-        Operand::FLG => 52,
-        Operand::ISP => 53,
-        Operand::SP => 54,
-        Operand::SB => 55,
-        Operand::FB => 56,
+impl From<Operand> for u32 {
+    ghost from_gives = { λ x r. r ≡ operand_no x };
+
+    fn from(x: Operand) -> u32 {
+        x as u32
     }
 }

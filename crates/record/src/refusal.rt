@@ -1,16 +1,29 @@
-// What a function returns, by name. scripts/interface takes names, numbers and comments into the header and the Rust crate.
-pub const ACCEPTED: u8 = 0; // done
+// Why a function refuses. scripts/interface takes names, numbers and comments into the header and the Rust crate, where 0 is done.
+ghost use Rattle.std.specs.Prelude.{◌≡◌};
+ghost use Rattle.record.specs.Answer.{number_of};
 
-pub const EXHAUSTED_INPUT: u8 = 1; // decoding: the image ends inside the instruction; asked for a length: there are fewer than two bytes
+#[derive(Clone, Copy, PartialEq, Eq)]
+pub enum Refusal {
+    ExhaustedInput = 1, // decoding: the image ends inside the instruction; asked for a length: there are fewer than two bytes
+    InvalidOpcode = 2, // decoding: no instruction has this code or this condition byte
+    InvalidOperand = 3, // decoding: the instruction does not take this operand
+    FirstByteOutside = 4, // decoding: not one of the 34 first bytes that are decoded here
+    NoString = 5, // encoding: no bytes decode to this instruction, but for those of marked rows; asked for a number: there is none
+    TooLittleRoom = 6, // what was passed in for the result is too short
+    ImageTooLong = 7, // sweeping: the image is longer than 4,096 bytes
+}
 
-pub const INVALID_OPCODE: u8 = 2; // decoding: no instruction has this code or this condition byte
+// A refused decoding: why, and how many bytes it took.
+#[derive(Clone, Copy, PartialEq, Eq)]
+pub struct Refused {
+    pub why: Refusal,
+    pub taken: usize,
+}
 
-pub const INVALID_OPERAND: u8 = 3; // decoding: the instruction does not take this operand
+impl From<Refusal> for u32 {
+    ghost from_gives = { λ x r. r ≡ number_of x };
 
-pub const FIRST_BYTE_OUTSIDE: u8 = 4; // decoding: not one of the 34 first bytes that are decoded here
-
-pub const NO_STRING: u8 = 5; // encoding: no bytes decode to this instruction, but for those of marked rows; asked for a number: there is none
-
-pub const TOO_LITTLE_ROOM: u8 = 6; // what was passed in for the result is too short
-
-pub const IMAGE_TOO_LONG: u8 = 7; // sweeping: the image is longer than 4,096 bytes
+    fn from(x: Refusal) -> u32 {
+        x as u32
+    }
+}

@@ -13,13 +13,11 @@ pub struct Number {
 }
 
 // Whether a name's number is signed: a displacement from the frame base, a jump's distance.
+#[tactic(auto, unfolding(crate::specs::Signed::is_signed, crate::specs::Same::among, crate::specs::Same::same_name))]
 pub fn is_signed(o: Operand) -> bool
     ensures { result ≡ is_signed o }
 {
-    match o {
-        Operand::Disp8_FB | Operand::Disp8 => true,
-        _ => false,
-    }
+    matches!(o, Operand::Disp8_FB | Operand::Disp8)
 }
 
 // A byte counts from -80 to 7F (hex).

@@ -1,6 +1,6 @@
 -- The bytes that a line gives: a digit says how many, then stand eight of which so many count.
 use Rattle.std.specs.Prelude.{ℕ, ◌+◌, List, take}
-use Rattle.record.specs.declared.Answer.{Answer}
+use Rattle.record.specs.Answer.{Answer}
 use Rattle.rows.specs.Run.{decode_rows}
 use Rattle.replay.specs.Hex.{digit_at, bytes_at}
 

@@ -1,6 +1,6 @@
 -- An answer's numbers, and where a line has them.
 use Rattle.std.specs.Prelude.{ℕ, List}
-use Rattle.record.specs.declared.Answer.{Answer}
+use Rattle.record.specs.Answer.{Answer}
 use Rattle.record.specs.Numbers.{opcode_no, size_no, operand_no}
 use Rattle.replay.specs.declared.numbers.Numbers.{Numbers}
 use Rattle.replay.specs.Hex.{digit_at, byte_at, word_at, long_at}

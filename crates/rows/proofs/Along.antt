@@ -9,13 +9,13 @@ use native.Mathlib.Omega.{arith}
 use lib.ListN.{length, get_or}
 use lib.Dec.{eqb, leb, ltb}
 use borrow.Author.Tests.{leb-true, leb-false, ltb-true, ltb-false, eqb-true}
-use Rattle.record.specs.declared.Answer.{Answer}
+use Rattle.record.specs.Answer.{Answer}
 use Rattle.record.specs.declared.Opcode.{Opcode}
 use Rattle.laws.specs.Choice.{pick}
 use Rattle.laws.proofs.Choice.{pick_holds}
 use Rattle.record.specs.declared.Seen.{Seen}
-use Rattle.record.specs.declared.Got.{Got}
-use Rattle.record.specs.declared.Got.TheVariants.{On, Short}
+use Rattle.record.specs.Answer.{Got}
+use Rattle.record.specs.Answer.{On, Short}
 use Rattle.rows.specs.Row.{Num, disp, imm, imm20, Refusal, refusal_no, Read, num, cond, stop, Condition, named, unnamed, Face}
 use Rattle.rows.specs.Codes.{cond_of}
 use Rattle.rows.specs.Fate.{bytes_of}

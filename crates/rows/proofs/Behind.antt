@@ -10,8 +10,8 @@ use lib.Dec.{eqb, leb, ltb}
 use borrow.Author.Tests.{ltb-true, lt-ltb, le-leb}
 use Rattle.laws.specs.Choice.{pick}
 use Rattle.record.specs.declared.Seen.{Seen}
-use Rattle.record.specs.declared.Got.{Got}
-use Rattle.record.specs.declared.Got.TheVariants.{On, Short}
+use Rattle.record.specs.Answer.{Got}
+use Rattle.record.specs.Answer.{On, Short}
 use Rattle.rows.specs.Row.{Num, disp, imm, imm20, Read, num, cond, stop, Condition, named, unnamed, Face, Table}
 use Rattle.rows.specs.Codes.{cond_of}
 use Rattle.rows.specs.Fate.{bytes_of}

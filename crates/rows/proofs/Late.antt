@@ -14,7 +14,7 @@ use Rattle.laws.specs.Choice.{both, either}
 use Rattle.laws.specs.Range.{upto}
 use Rattle.laws.proofs.Choice.{both_left, both_right}
 use Rattle.laws.proofs.Range.{upto_at}
-use Rattle.record.specs.declared.Answer.{Answer}
+use Rattle.record.specs.Answer.{Answer}
 use Rattle.rows.specs.Bytes.{Bytes}
 use Rattle.rows.specs.Row.{Row, Table}
 use Rattle.rows.specs.Groups.{groups, known, rows_of, document01}

@@ -9,7 +9,7 @@ use lib.ListN.{length, get_or}
 use lib.Dec.{leb}
 use borrow.Author.Tests.{le-leb, lt-leb, ne_eqb, leb-true, leb-false}
 use Rattle.record.specs.declared.Seen.{Seen}
-use Rattle.record.specs.declared.Got.TheVariants.{On, Short}
+use Rattle.record.specs.Answer.{On, Short}
 use Rattle.rows.specs.Row.{disp, imm, imm20}
 use Rattle.rows.specs.Run.{reading, read_disp, read_into, with_disp, with_imm, twenty_bits}
 

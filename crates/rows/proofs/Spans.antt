@@ -11,7 +11,7 @@ use Rattle.laws.specs.Choice.{pick}
 use Rattle.record.specs.declared.Opcode.{Opcode}
 use Rattle.record.specs.declared.Record.{Record}
 use Rattle.record.specs.declared.Seen.{Seen}
-use Rattle.record.specs.declared.Got.TheVariants.{On, Short}
+use Rattle.record.specs.Answer.{On, Short}
 use Rattle.record.specs.Parts.{part}
 use Rattle.rows.specs.Row.{disp, imm, imm20, InvalidOpcode, InvalidOperand, Read, num, cond, stop, Condition, named, unnamed, Face, Row, Table}
 use Rattle.rows.specs.Codes.{cond_of}

@@ -6,14 +6,14 @@ use mathlib.Core.Bool.{Bool}
 use mathlib.Core.List.{List, [], ◌∷◌}
 use lib.ListN.{length, get_or}
 use borrow.Author.Tests.{lt-ltb, le-ltb}
-use Rattle.record.specs.declared.Answer.{Answer}
+use Rattle.record.specs.Answer.{Answer}
 use Rattle.record.specs.declared.Opcode.{Opcode}
 use Rattle.record.specs.declared.Size.{Size}
 use Rattle.record.specs.declared.Width.{Width}
 use Rattle.record.specs.declared.Operand.{Operand}
 use Rattle.record.specs.declared.Seen.{Seen}
-use Rattle.record.specs.declared.Got.{Got}
-use Rattle.record.specs.declared.Got.TheVariants.{On, Short}
+use Rattle.record.specs.Answer.{Got}
+use Rattle.record.specs.Answer.{On, Short}
 use Rattle.rows.specs.Row.{Num, Refusal, refusal_no, Read, num, stop, cond, named, unnamed, Face}
 use Rattle.rows.specs.Codes.{cond_of}
 use Rattle.rows.specs.Run.{reading, and_then, accepted_by, accepted, refusal, renamed, past, run}

@@ -11,11 +11,11 @@ use lib.ListN.{length, get_or}
 use borrow.Author.Tests.{eqb-true}
 use Rattle.laws.specs.Choice.{pick}
 use Rattle.laws.proofs.Choice.{pick_holds}
-use Rattle.record.specs.declared.Answer.{Answer}
+use Rattle.record.specs.Answer.{Answer}
 use Rattle.record.specs.declared.Opcode.{Opcode}
 use Rattle.record.specs.declared.Seen.{Seen}
-use Rattle.record.specs.declared.Got.{Got}
-use Rattle.record.specs.declared.Got.TheVariants.{On, Short}
+use Rattle.record.specs.Answer.{Got}
+use Rattle.record.specs.Answer.{On, Short}
 use Rattle.record.specs.declared.fields.Field.{Field}
 use Rattle.record.specs.Parts.{part_of}
 use Rattle.rows.specs.Codes.{cond_of}

@@ -1,6 +1,6 @@
 -- Document 01, "What comes back": one reader of all rows.
 use Rattle.std.specs.Prelude.{ℕ, zero, suc, ◌+◌, ◌*◌, ◌^◌, ◌%◌, Bool, false, List, [], ◌∷◌, get_or, length, ltb, leb, eqb}
-use Rattle.record.specs.declared.Answer.{Answer}
+use Rattle.record.specs.Answer.{Answer}
 use Rattle.record.specs.declared.Opcode.{Opcode}
 use Rattle.record.specs.declared.Size.{Size}
 use Rattle.record.specs.declared.Width.{Width}
@@ -11,8 +11,8 @@ use Rattle.record.specs.Blank.{blank}
 use Rattle.record.specs.Parts.{part, no_parts}
 use Rattle.record.specs.declared.Parts.{Parts}
 use Rattle.record.specs.declared.Seen.{Seen}
-use Rattle.record.specs.declared.Got.{Got}
-use Rattle.record.specs.declared.Got.TheVariants.{On, Short}
+use Rattle.record.specs.Answer.{Got}
+use Rattle.record.specs.Answer.{On, Short}
 use Rattle.rows.specs.Row.{Num, disp, imm, imm20, refusal_no, Read, num, cond, stop, Condition, named, unnamed, Face, face, Row, Table}
 use Rattle.rows.specs.Codes.{cond_of}
 use Rattle.rows.specs.Groups.{document01}

@@ -1,7 +1,7 @@
 -- Document 01, the sweep, and request A1: what stands at a place of an image, and a walk from place to place by a rule.
 use Rattle.std.specs.Prelude.{ℕ, zero, suc, ◌+◌, ◌-◌, List, length, drop, leb, eqb}
 use Rattle.laws.specs.Choice.{pick}
-use Rattle.record.specs.declared.Answer.{Answer}
+use Rattle.record.specs.Answer.{Answer}
 use Rattle.sweep.specs.declared.Rule.{Rule}
 use Rattle.sweep.specs.declared.Rule.TheVariants.{GoOn, Stop}
 use Rattle.sweep.specs.declared.step.Step.{Step}

@@ -1,7 +1,7 @@
 -- What a first byte behind the pairs of request A7 comes to: a list of registers, or outside.
 use Rattle.std.specs.Prelude.{ℕ, ◌/◌, ◌%◌, []}
 use Rattle.laws.specs.Choice.{pick}
-use Rattle.record.specs.declared.Answer.{Answer}
+use Rattle.record.specs.Answer.{Answer}
 use Rattle.rows.specs.RegisterList.{list}
 use Rattle.rows.specs.Run.{refusal, run_row}
 use Rattle.decode_72.specs.steps.Added.{is_list, list_opcode}

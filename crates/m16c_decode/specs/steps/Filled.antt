@@ -1,6 +1,6 @@
 -- What one answer leaves where there is room, and which answers are delivered.
 use Rattle.std.specs.Prelude.{ℕ, ◌≤◌, ◌≡◌, List, ◌++◌, drop}
-use Rattle.record.specs.declared.Answer.{Answer}
+use Rattle.record.specs.Answer.{Answer}
 use Rattle.record.specs.declared.Operand.TheVariants.{Nothing}
 use Rattle.m16c_decode.specs.Decoded.{numbers_of, entries}
 

@@ -3,8 +3,8 @@ use Rattle.std.specs.Prelude.{ℕ, ◌%◌, List, eqb}
 use Rattle.laws.specs.Choice.{pick}
 use Rattle.record.specs.declared.Parts.{Parts}
 use Rattle.record.specs.declared.Seen.{Seen}
-use Rattle.record.specs.declared.Got.{Got}
-use Rattle.record.specs.declared.Got.TheVariants.{On, Short}
+use Rattle.record.specs.Answer.{Got}
+use Rattle.record.specs.Answer.{On, Short}
 use Rattle.record.specs.Parts.{part}
 use Rattle.rows.specs.Row.{Num, disp, imm, imm20}
 use Rattle.rows.specs.Run.{reading}

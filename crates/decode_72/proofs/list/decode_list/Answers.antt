@@ -4,7 +4,7 @@ use Prim.Native.Nat.{ℕ, ◌+◌, ◌*◌, ◌/◌, ◌%◌}
 use mathlib.Core.Path.{◌≡◌, ap, ◌∙◌}
 use mathlib.Core.Bool.{false}
 use native.Mathlib.Omega.{arith}
-use Rattle.record.specs.declared.Answer.{Answer}
+use Rattle.record.specs.Answer.{Answer}
 use Rattle.record.specs.declared.Size.TheVariants as size
 use Rattle.record.specs.declared.Width.TheVariants.{None}
 use Rattle.record.specs.declared.Operand.TheVariants.{Nothing, RegList}
