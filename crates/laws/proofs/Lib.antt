@@ -4,3 +4,4 @@ pub mod Range
 pub mod Rest
 pub mod Over
 pub mod Table
+pub mod Exit

@@ -2,3 +2,4 @@ pub mod Told
 pub mod Finish
 pub mod Names
 pub mod Nibble
+pub mod Found

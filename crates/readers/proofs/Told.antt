@@ -12,13 +12,14 @@ use borrow.Author.Tests.{eqb-true}
 use Rattle.laws.specs.Choice.{pick}
 use Rattle.record.specs.declared.Parts.{Parts}
 use Rattle.record.specs.declared.Seen.{Seen}
-use Rattle.record.specs.Answer.{Got}
-use Rattle.record.specs.Answer.{On, Short}
+use Rattle.std.specs.Prelude.{Result, Ok}
+use Rattle.record.specs.Answer.{Got, On, Short, found}
+use Rattle.record.specs.declared.refusal.Refused.{Refused}
 use Rattle.rows.specs.Row.{Num, disp, imm, imm20}
 use Rattle.rows.specs.Codes.{size_G}
 use Rattle.rows.specs.Fate.{bytes_of}
 use Rattle.rows.specs.Run.{bytes, reading, read_disp, read_into, disp_at, imm_at, with_disp, in_full, in_twenty, begun}
-use Rattle.readers.specs.steps.Told.{disp_told, imm_told, retold, told, reading_in}
+use Rattle.readers.specs.steps.Told.{disp_told, imm_told, retold, told, reading_in, found_in}
 
 -- what was read, or nothing, is told as it is if its parts are
 same : (f : Parts → Parts) (t : Seen) → f t.parts ≡ t.parts → (l : Bool) → told f (pick l (On t) Short) ≡ pick l (On t) Short
@@ -42,12 +43,12 @@ module _ (bs : List ℕ) (s : Seen) (h : s.taken < 256) where
   as_read (imm n) = same (imm_told (s.taken % 256)) (in_full n (bytes bs s.taken n) s) (ap (λ p. imm_at p n s.parts) place) (leb (s.taken + n) (length bs))
   as_read imm20 = same (imm_told (s.taken % 256)) (in_twenty (bytes bs s.taken 3) s) (ap (λ p. imm_at p 3 s.parts) place) (leb (s.taken + 3) (length bs))
 
-pub near : (k : Num) (bs : List ℕ) (s : Seen) {g : Got} → s.taken < 256 → g ≡ reading_in k bs s → g ≡ reading k bs s
+pub near : (k : Num) (bs : List ℕ) (s : Seen) {g : Result Seen Refused} → s.taken < 256 → g ≡ found_in k bs s → g ≡ found bs (reading k bs s)
 unfolding reading_in
-near k bs s h e = e ∙ as_read bs s h k
+near k bs s h e = e ∙ ap (found bs) (as_read bs s h k)
 
 -- a row's first read
-pub first : (k : Num) (bs : List ℕ) {g : Got} → g ≡ reading_in k bs (begun 0) → g ≡ reading k bs (begun 0)
+pub first : (k : Num) (bs : List ℕ) {g : Result Seen Refused} → g ≡ found_in k bs (begun 0) → g ≡ found bs (reading k bs (begun 0))
 first k bs h = near k bs (begun 0) (omega arith) h
 
 -- no byte is read
@@ -79,8 +80,14 @@ size_small c = by (ltb c 8) (ltb c 12)
     by false false = omega arith
 
 -- a row's second read begins within the first 256 bytes: behind a displacement of at most two
-pub second : (n : ℕ) (bs : List ℕ) {t : Seen} {g : Got} → n ≤ 2 → g ≡ reading_in (disp n) bs (begun 0) → g ≡ On t → t.taken < 256
-second n bs {t} l h e = let f : reading (disp n) bs (begun 0) ≡ On t = sym (first (disp n) bs h) ∙ e in omega (arith, onward (disp n) bs (begun 0) t f)
+pub second : (n : ℕ) (bs : List ℕ) {t : Seen} {g : Result Seen Refused} → n ≤ 2 → g ≡ found_in (disp n) bs (begun 0) → g ≡ Ok t → t.taken < 256
+second n bs {t} l h e =
+    let f : reading (disp n) bs (begun 0) ≡ On t = went (reading (disp n) bs (begun 0)) (sym (first (disp n) bs h) ∙ e) in
+    omega (arith, onward (disp n) bs (begun 0) t f)
+  where
+    went : (x : Got) → found bs x ≡ Ok t → x ≡ On t
+    went (On u) e = let f : u ≡ t = cc in ap On f
+    went Short e = let z : ◌≡◌ {A = ℕ} 0 1 = cc in absurd (omega arith)
 
-pub behind_general : (c : ℕ) (bs : List ℕ) {t : Seen} {g : Got} → g ≡ reading_in (disp (size_G c)) bs (begun 0) → g ≡ On t → t.taken < 256
+pub behind_general : (c : ℕ) (bs : List ℕ) {t : Seen} {g : Result Seen Refused} → g ≡ found_in (disp (size_G c)) bs (begun 0) → g ≡ Ok t → t.taken < 256
 behind_general c bs h e = second (size_G c) bs (size_small c) h e

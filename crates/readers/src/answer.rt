@@ -1,74 +1,55 @@
-ghost use Rattle.std.specs.Prelude.{◌≡◌};
+ghost use Rattle.std.specs.Prelude.{◌≡◌, Ok, Err};
+ghost use Rattle.record.specs.Answer.{answer_of};
 ghost use Rattle.rows.specs.Rows.{size_of};
-ghost use Rattle.rows.specs.Run.{accepted, and_then, begun, refusal};
+ghost use Rattle.rows.specs.Run.{accepted, begun, refusal};
 ghost use Rattle.readers.specs.steps.Width.{width_of};
 
-use record::{Answer, Got, Opcode, Operand, Record, Seen, Size, Width, refusal};
+use record::refusal::{Refusal, Refused};
+use record::{Opcode, Operand, Record, Seen, Size, Width};
 
-// An accepted answer: the record, whose length is the bytes taken.
-pub fn accept(
-    opcode: Opcode,
-    size: Size,
-    width: Width,
-    op0: Operand,
-    op1: Operand,
-    marked: bool,
-    s: Seen,
-) -> Answer
-    ensures { result ≡ accepted opcode size width op0 op1 marked s }
-{
-    let parts = s.parts;
-    let r = Record {
-        imm_wide: s.imm_wide,
-        dispabs: s.dispabs,
-        first: s.first,
-        length: s.taken,
-        opcode: opcode,
-        size: size,
-        width: width,
-        op0: op0,
-        op1: op1,
-        op2: Operand::Nothing,
-        marked: marked,
-        dropped: s.dropped,
-        parts: parts,
-        registers: 0,
-    };
-    Answer {
-        inst: r,
-        taken: s.taken,
-        refusal: refusal::ACCEPTED,
+// What a decoding says: a record, whose length is the bytes taken, or why there is none.
+pub type Decoded = Result<Record, Refused>;
+
+// What a row names, whatever it reads.
+#[derive(Clone, Copy)]
+pub struct Face {
+    pub opcode: Opcode,
+    pub size: Size,
+    pub width: Width,
+    pub op0: Operand,
+    pub op1: Operand,
+    pub marked: bool,
+}
+
+impl Face {
+    // The record of a row whose reads found this.
+    pub fn with(self, s: Seen) -> Record
+        ensures { answer_of (Ok result) ≡ accepted self.opcode self.size self.width self.op0 self.op1 self.marked s }
+    {
+        Record {
+            imm_wide: s.imm_wide,
+            dispabs: s.dispabs,
+            first: s.first,
+            length: s.taken,
+            opcode: self.opcode,
+            size: self.size,
+            width: self.width,
+            op0: self.op0,
+            op1: self.op1,
+            op2: Operand::Nothing,
+            marked: self.marked,
+            dropped: s.dropped,
+            parts: s.parts,
+            registers: 0,
+        }
     }
 }
 
-// A refusal: its number, the bytes taken and the blank record.
-pub fn refuse(no: u8, taken: usize) -> Answer
-    ensures { result ≡ refusal no taken }
+// A refusal, and the bytes taken.
+pub fn refuse(why: Refusal, taken: usize) -> Decoded
+    ensures { result ≡ Err (record { why = why; taken = taken }) }
 {
-    Answer {
-        inst: record::BLANK,
-        taken: taken,
-        refusal: no,
-    }
-}
-
-// What a row's last read found makes its record; too few bytes refuse it, with every byte taken.
-pub fn finish(
-    bs: &[u8],
-    got: Got,
-    opcode: Opcode,
-    size: Size,
-    width: Width,
-    op0: Operand,
-    op1: Operand,
-    marked: bool,
-) -> Answer
-    ensures { result ≡ and_then bs.now got (accepted opcode size width op0 op1 marked) }
-{
-    match got {
-        Got::Short => refuse(refusal::EXHAUSTED_INPUT, bs.len()),
-        Got::On(s) => accept(opcode, size, width, op0, op1, marked, s),
-    }
+    Err(Refused { why, taken })
 }
 
 // The width of an even first byte is B, of an odd one W.
@@ -99,7 +80,8 @@ pub const BEGIN: Seen = Seen {
 pub fn begin(number: u32) -> Seen
     ensures { result ≡ begun number }
 {
-    let mut s = BEGIN;
-    s.imm_wide = number;
-    s
+    Seen {
+        imm_wide: number,
+        ..BEGIN
+    }
 }

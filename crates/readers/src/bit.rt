@@ -1,10 +1,11 @@
 ghost use Rattle.std.specs.Prelude.{◌≡◌, ◌%◌};
 ghost use Rattle.rows.specs.Row.{disp};
 ghost use Rattle.rows.specs.Codes.{name_T, size_T};
-ghost use Rattle.readers.specs.steps.Told.{reading_in};
+ghost use Rattle.readers.specs.steps.Told.{found_in};
 
 use crate::{general, numbers};
-use record::{Got, Operand, Seen};
+use record::refusal::Refused;
+use record::{Operand, Seen};
 
 const NAMES: [Operand; 16] = [
     Operand::Bit_R0,
@@ -33,8 +34,8 @@ pub fn bit_name(code: u8) -> Operand
 }
 
 // T(code): registers have the bit's number in a byte, the rest is as G.
-pub fn bit(bs: &[u8], s: Seen, code: u8) -> Got
-    ensures { result ≡ reading_in (disp (size_T code)) bs.now s }
+pub fn bit(bs: &[u8], s: Seen, code: u8) -> Result<Seen, Refused>
+    ensures { result ≡ found_in (disp (size_T code)) bs.now s }
 {
     if code < 6 {
         return numbers::disp_byte(bs, s);

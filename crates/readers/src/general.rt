@@ -1,11 +1,12 @@
 ghost use Rattle.std.specs.Prelude.{◌≡◌, ◌%◌};
 ghost use Rattle.rows.specs.Row.{disp};
 ghost use Rattle.rows.specs.Codes.{name_G, size_G};
-ghost use Rattle.readers.specs.steps.Told.{reading_in};
+ghost use Rattle.readers.specs.steps.Told.{found_in};
 ghost use Rattle.readers.specs.steps.Width.{width_of};
 
 use crate::numbers;
-use record::{Got, Operand, Seen};
+use record::refusal::Refused;
+use record::{Operand, Seen};
 
 // Names by code: at W, at B, then what other forms have in place of those at W: pairs at codes 0 to 5, J at C and D. One table, so
 // that a width picks a place in it; sharing the twelve names from A0 on takes more code than it saves.
@@ -61,11 +62,11 @@ pub fn general_name(byte: bool, code: u8) -> Operand
 }
 
 // G(code): its displacement, none below 8, one byte below 12, two from there.
-pub fn general(bs: &[u8], s: Seen, code: u8) -> Got
-    ensures { result ≡ reading_in (disp (size_G code)) bs.now s }
+pub fn general(bs: &[u8], s: Seen, code: u8) -> Result<Seen, Refused>
+    ensures { result ≡ found_in (disp (size_G code)) bs.now s }
 {
     if code < 8 {
-        return Got::On(s);
+        return Ok(s);
     }
     if code < 12 {
         return numbers::disp_byte(bs, s);

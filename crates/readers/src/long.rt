@@ -1,11 +1,12 @@
 ghost use Rattle.std.specs.Prelude.{◌≡◌, ◌%◌, ◌<◌};
 ghost use Rattle.record.specs.declared.Width.{Width};
 ghost use Rattle.rows.specs.Codes.{name_J, name_P, no_pair, num_J};
-ghost use Rattle.readers.specs.steps.Told.{reading_in};
+ghost use Rattle.readers.specs.steps.Told.{found_in};
 ghost use Rattle.readers.specs.steps.Places.{pair_place, long_place};
 
 use crate::{general, numbers, set};
-use record::{Got, Operand, Seen};
+use record::refusal::Refused;
+use record::{Operand, Seen};
 
 // The place of a pair's name in the table: from code 6 on that of G.
 fn pair_place(n: usize) -> usize
@@ -46,8 +47,8 @@ pub fn long_refused(code: u8) -> bool
 
 // J(code): 20 bits at C and D, the rest is as G.
 #[tactic(auto, unfolding(rows::specs::Codes::num_J))]
-pub fn long(bs: &[u8], s: Seen, code: u8) -> Got
-    ensures { result ≡ reading_in (num_J code) bs.now s }
+pub fn long(bs: &[u8], s: Seen, code: u8) -> Result<Seen, Refused>
+    ensures { result ≡ found_in (num_J code) bs.now s }
 {
     if code == 12 {
         return numbers::long20(bs, s);

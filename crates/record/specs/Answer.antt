@@ -1,5 +1,5 @@
 -- Document 01, "What comes back": a record, the bytes taken, and 0 or the refusal's number.
-use Rattle.std.specs.Prelude.{ℕ, Result, Ok, Err}
+use Rattle.std.specs.Prelude.{ℕ, List, length, Result, Ok, Err}
 use Rattle.record.specs.declared.Record.{Record}
 use Rattle.record.specs.declared.Seen.{Seen}
 use Rattle.record.specs.declared.refusal.Refusal.{Refusal}
@@ -40,3 +40,12 @@ length_in (Err e) = 0
 pub data Got : Type 0 where
   On : Seen → Got
   Short : Got
+
+-- too few bytes: every one was taken
+abbrev pub too_few : List ℕ → Refused
+too_few bs = record { why = ExhaustedInput; taken = length bs }
+
+-- the same as a result, of a read among these bytes
+abbrev pub found : List ℕ → Got → Result Seen Refused
+found bs (On s) = Ok s
+found bs Short = Err (too_few bs)

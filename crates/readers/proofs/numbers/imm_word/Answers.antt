@@ -1,20 +1,26 @@
 -- `readers::numbers::imm_word` meets its contract.
 -- Assumes nothing.
-use mathlib.Core.Path.{ap}
+use Prim.Native.Nat.{◌+◌, ◌%◌}
+use mathlib.Core.Path.{ap, ◌∙◌}
 use native.Mathlib.Omega.{arith}
+use Rattle.std.specs.Prelude.{Ok}
 use Rattle.rows.specs.Row.{imm}
 use Rattle.rows.proofs.Reading.{unread, imm2}
 use Rattle.readers.specs.steps.Told.{retold, told, reading_in}
+use Rattle.record.specs.Answer.{found}
+use Rattle.readers.proofs.Found.{within, byte, first_byte, ends}
 use Rattle.readers.proofs.numbers.imm_word.Goals as goal
 
-pub returns-then-bs-lt2 : goal.returns-then-bs-lt2
-unfolding reading_in
-returns-then-bs-lt2 c = ap (told (retold _ (imm 2))) (unread _ _ 2 _ (omega arith))
-
-pub returns-then-bs-at : goal.returns-then-bs-at
-unfolding reading_in
-returns-then-bs-at c = ap (told (retold _ (imm 2))) (unread _ _ 2 _ (omega arith))
+pub returns-in_err-low : goal.returns-in_err-low
+returns-in_err-low c = ends 2 _ _ (imm 2) c.behind.ensures c.in_err-low.was (unread _ _ 2 _) c.from_residual.ensures.1
 
 pub returns : goal.returns
 unfolding reading_in
-returns c = rw c.imm_at.ensures (ap (told (retold _ (imm 2))) (imm2 _ _ (omega arith) c.large.ensures))
+returns c =
+    let bs = c.args.bs.now in
+    let s = c.args.s in
+    let inside = within 2 bs s c.behind.ensures c.in_ok-low.was in
+    let there = byte 2 bs s c.behind.ensures c.in_ok-low.was in
+    let low = first_byte 2 bs s c.behind.ensures c.in_ok-low.was (omega arith) in
+    let high = there 1 (omega arith) in
+    ap Ok c.with_imm.ensures ∙ ap (λ g. found bs (told (retold (s.taken % 256) (imm 2)) g)) (imm2 bs s (omega (arith, inside)) (omega (arith, c.from_le_bytes.ensures, low, high, c.type_inv.bs s.taken, c.type_inv.bs (s.taken + 1))))
