@@ -11,8 +11,8 @@ use borrow.Author.Tests.{le-leb}
 use Rattle.rows.specs.Row.{Table}
 use Rattle.rows.specs.Run.{decode_by}
 use Rattle.sweep.specs.declared.Rule.{Rule}
-use Rattle.sweep.specs.declared.step.Step.{Step}
-use Rattle.sweep.specs.declared.step.Step.TheVariants.{End, Accepted, Refused}
+use Rattle.sweep.specs.Step.{Step}
+use Rattle.sweep.specs.Step.{End, Accepted, Refused}
 use Rattle.sweep.specs.Walk.{step_at, Onward, onward, visit, walk}
 use Rattle.sweep.proofs.Walk.{turned, by_table}
 use Rattle.line.specs.declared.Written.{Written}

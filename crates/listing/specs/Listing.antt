@@ -4,8 +4,8 @@ use Rattle.laws.specs.Choice.{pick}
 use Rattle.rows.specs.Row.{Table}
 use Rattle.rows.specs.Run.{decode_by}
 use Rattle.sweep.specs.declared.Rule.{Rule}
-use Rattle.sweep.specs.declared.step.Step.{Step}
-use Rattle.sweep.specs.declared.step.Step.TheVariants.{End, Accepted, Refused}
+use Rattle.sweep.specs.Step.{Step}
+use Rattle.sweep.specs.Step.{End, Accepted, Refused}
 use Rattle.sweep.specs.Walk.{Walk, last, more, walk}
 use Rattle.laws.specs.Text.{spelled}
 use Rattle.line.specs.Line.{line_of, end_text, refused_text}

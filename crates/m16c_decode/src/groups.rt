@@ -9,7 +9,6 @@ ghost use Rattle.decode_72.specs.steps.Added.{opcode_of};
 ghost use Rattle.by_manual.specs.Changed.{change_at};
 ghost use Rattle.by_manual.specs.Lists.{is_changed};
 ghost use Rattle.by_manual.specs.Table.{by_manual};
-ghost use Rattle.m16c_decode.specs.Decoded.{entries};
 ghost use Rattle.m16c_decode.specs.steps.Filled.{Small, Filled};
 ghost use Rattle.m16c_decode.specs.steps.Behind.{behind_pairs};
 
@@ -18,133 +17,119 @@ use decode_7c::{op7C, op7D, opEB};
 use decode_72::{list, two};
 use decode_74::{op7A, op7B, op7E, op74, op76, op78};
 use readers::answer;
-use record::refusal;
+use record::refusal::Refusal;
 
-pub(crate) fn fill_74(bs: &[u8], byte: bool, out: &mut [u32], b: u8) -> u32
-    requires { (entries ≤ length out.old) × Small (run_row (row74 (width_of byte) (b / 16) (b % 16)) bs.now) }
+pub(crate) fn fill_74(bs: &[u8], byte: bool, out: &mut [u32; deliver::ENTRIES], b: u8) -> u32
+    requires { Small (run_row (row74 (width_of byte) (b / 16) (b % 16)) bs.now) }
     ensures { Filled (run_row (row74 (width_of byte) (b / 16) (b % 16)) bs.now) out.old result out.new }
 {
     let bytes = &bs[0..];
-    let all = &mut out[0..];
-    deliver::fill(op74::decode_op74(bytes, byte, b), all)
+    deliver::fill(op74::decode_op74(bytes, byte, b), out)
 }
 
-pub(crate) fn fill_76(bs: &[u8], byte: bool, out: &mut [u32], b: u8) -> u32
-    requires { (entries ≤ length out.old) × Small (run_row (row76 (width_of byte) (b / 16) (b % 16)) bs.now) }
+pub(crate) fn fill_76(bs: &[u8], byte: bool, out: &mut [u32; deliver::ENTRIES], b: u8) -> u32
+    requires { Small (run_row (row76 (width_of byte) (b / 16) (b % 16)) bs.now) }
     ensures { Filled (run_row (row76 (width_of byte) (b / 16) (b % 16)) bs.now) out.old result out.new }
 {
     let bytes = &bs[0..];
-    let all = &mut out[0..];
-    deliver::fill(op76::decode_op76(bytes, byte, b), all)
+    deliver::fill(op76::decode_op76(bytes, byte, b), out)
 }
 
-pub(crate) fn fill_78(bs: &[u8], byte: bool, out: &mut [u32], b: u8) -> u32
-    requires { (entries ≤ length out.old) × Small (run_row (row78 (width_of byte) (b / 16) (b % 16)) bs.now) }
+pub(crate) fn fill_78(bs: &[u8], byte: bool, out: &mut [u32; deliver::ENTRIES], b: u8) -> u32
+    requires { Small (run_row (row78 (width_of byte) (b / 16) (b % 16)) bs.now) }
     ensures { Filled (run_row (row78 (width_of byte) (b / 16) (b % 16)) bs.now) out.old result out.new }
 {
     let bytes = &bs[0..];
-    let all = &mut out[0..];
-    deliver::fill(op78::decode_op78(bytes, byte, b), all)
+    deliver::fill(op78::decode_op78(bytes, byte, b), out)
 }
 
-pub(crate) fn fill_7A(bs: &[u8], b: u8, out: &mut [u32]) -> u32
-    requires { (entries ≤ length out.old) × Small (run_row (row_7A (b / 16) (b % 16)) bs.now) }
+pub(crate) fn fill_7A(bs: &[u8], b: u8, out: &mut [u32; deliver::ENTRIES]) -> u32
+    requires { Small (run_row (row_7A (b / 16) (b % 16)) bs.now) }
     ensures { Filled (run_row (row_7A (b / 16) (b % 16)) bs.now) out.old result out.new }
 {
     let bytes = &bs[0..];
-    let all = &mut out[0..];
-    deliver::fill(op7A::decode_op7A(bytes, b), all)
+    deliver::fill(op7A::decode_op7A(bytes, b), out)
 }
 
-pub(crate) fn fill_7B(bs: &[u8], b: u8, out: &mut [u32]) -> u32
-    requires { (entries ≤ length out.old) × Small (run_row (row_7B (b / 16) (b % 16)) bs.now) }
+pub(crate) fn fill_7B(bs: &[u8], b: u8, out: &mut [u32; deliver::ENTRIES]) -> u32
+    requires { Small (run_row (row_7B (b / 16) (b % 16)) bs.now) }
     ensures { Filled (run_row (row_7B (b / 16) (b % 16)) bs.now) out.old result out.new }
 {
     let bytes = &bs[0..];
-    let all = &mut out[0..];
-    deliver::fill(op7B::decode_op7B(bytes, b), all)
+    deliver::fill(op7B::decode_op7B(bytes, b), out)
 }
 
-pub(crate) fn fill_7C(bs: &[u8], b: u8, out: &mut [u32]) -> u32
-    requires { (entries ≤ length out.old) × Small (run_row (row_7C (b / 16) (b % 16)) bs.now) }
+pub(crate) fn fill_7C(bs: &[u8], b: u8, out: &mut [u32; deliver::ENTRIES]) -> u32
+    requires { Small (run_row (row_7C (b / 16) (b % 16)) bs.now) }
     ensures { Filled (run_row (row_7C (b / 16) (b % 16)) bs.now) out.old result out.new }
 {
     let bytes = &bs[0..];
-    let all = &mut out[0..];
-    deliver::fill(op7C::decode_op7C(bytes, b), all)
+    deliver::fill(op7C::decode_op7C(bytes, b), out)
 }
 
-pub(crate) fn fill_7D(bs: &[u8], b: u8, out: &mut [u32]) -> u32
-    requires { (entries ≤ length out.old) × Small (run_row (row_7D (b / 16) (b % 16)) bs.now) }
+pub(crate) fn fill_7D(bs: &[u8], b: u8, out: &mut [u32; deliver::ENTRIES]) -> u32
+    requires { Small (run_row (row_7D (b / 16) (b % 16)) bs.now) }
     ensures { Filled (run_row (row_7D (b / 16) (b % 16)) bs.now) out.old result out.new }
 {
     let bytes = &bs[0..];
-    let all = &mut out[0..];
-    deliver::fill(op7D::decode_op7D(bytes, b), all)
+    deliver::fill(op7D::decode_op7D(bytes, b), out)
 }
 
-pub(crate) fn fill_7E(bs: &[u8], b: u8, out: &mut [u32]) -> u32
-    requires { (entries ≤ length out.old) × Small (run_row (row_7E (b / 16) (b % 16)) bs.now) }
+pub(crate) fn fill_7E(bs: &[u8], b: u8, out: &mut [u32; deliver::ENTRIES]) -> u32
+    requires { Small (run_row (row_7E (b / 16) (b % 16)) bs.now) }
     ensures { Filled (run_row (row_7E (b / 16) (b % 16)) bs.now) out.old result out.new }
 {
     let bytes = &bs[0..];
-    let all = &mut out[0..];
-    deliver::fill(op7E::decode_op7E(bytes, b), all)
+    deliver::fill(op7E::decode_op7E(bytes, b), out)
 }
 
-pub(crate) fn fill_EB(bs: &[u8], b: u8, out: &mut [u32]) -> u32
-    requires { (entries ≤ length out.old) × Small (run_row (row_EB (b / 16) (b % 16)) bs.now) }
+pub(crate) fn fill_EB(bs: &[u8], b: u8, out: &mut [u32; deliver::ENTRIES]) -> u32
+    requires { Small (run_row (row_EB (b / 16) (b % 16)) bs.now) }
     ensures { Filled (run_row (row_EB (b / 16) (b % 16)) bs.now) out.old result out.new }
 {
     let bytes = &bs[0..];
-    let all = &mut out[0..];
-    deliver::fill(opEB::decode_opEB(bytes, b), all)
+    deliver::fill(opEB::decode_opEB(bytes, b), out)
 }
 
 // One of the ten pairs of request A7.
-pub(crate) fn fill_two(bs: &[u8], a: u8, out: &mut [u32], b: u8) -> u32
-    requires { (entries ≤ length out.old) × Small (run_row (two (opcode_of a) (width_of (eqb (a % 2) 0)) (b / 16) (b % 16)) bs.now) }
+pub(crate) fn fill_two(bs: &[u8], a: u8, out: &mut [u32; deliver::ENTRIES], b: u8) -> u32
+    requires { Small (run_row (two (opcode_of a) (width_of (eqb (a % 2) 0)) (b / 16) (b % 16)) bs.now) }
     ensures { Filled (run_row (two (opcode_of a) (width_of (eqb (a % 2) 0)) (b / 16) (b % 16)) bs.now) out.old result out.new }
 {
     let bytes = &bs[0..];
-    let all = &mut out[0..];
-    deliver::fill(two::decode_two(bytes, a, b), all)
+    deliver::fill(two::decode_two(bytes, a, b), out)
 }
 
 // Behind these pairs: a list of registers, or a first byte outside.
-pub(crate) fn fill_list(a: u8, b: u8, out: &mut [u32]) -> u32
-    requires { (entries ≤ length out.old) × Small (behind_pairs a b) }
+pub(crate) fn fill_list(a: u8, b: u8, out: &mut [u32; deliver::ENTRIES]) -> u32
+    requires { Small (behind_pairs a b) }
     ensures { Filled (behind_pairs a b) out.old result out.new }
 {
-    let all = &mut out[0..];
     if decode_72::is_list(a) {
-        return deliver::fill(list::decode_list(a, b), all);
+        return deliver::fill(list::decode_list(a, b), out);
     }
-    deliver::fill(answer::refuse(refusal::FIRST_BYTE_OUTSIDE, 1), all)
+    deliver::fill(answer::refuse(Refusal::FirstByteOutside, 1), out)
 }
 
-pub(crate) fn fill_outside(out: &mut [u32]) -> u32
-    requires { entries ≤ length out.old }
+pub(crate) fn fill_outside(out: &mut [u32; deliver::ENTRIES]) -> u32
     ensures { Filled (refusal 4 1) out.old result out.new }
 {
-    let all = &mut out[0..];
-    deliver::fill(answer::refuse(refusal::FIRST_BYTE_OUTSIDE, 1), all)
+    deliver::fill(answer::refuse(Refusal::FirstByteOutside, 1), out)
 }
 
 // Fewer than two bytes stand at the place.
-pub(crate) fn fill_few(image: &[u8], at: usize, out: &mut [u32]) -> u32
-    requires { (length (drop at image.now) < 2) × (entries ≤ length out.old) × Small (decode_rows (drop at image.now)) }
+pub(crate) fn fill_few(image: &[u8], at: usize, out: &mut [u32; deliver::ENTRIES]) -> u32
+    requires { (length (drop at image.now) < 2) × Small (decode_rows (drop at image.now)) }
     ensures { Filled (decode_rows (drop at image.now)) out.old result out.new }
 {
     deliver::fill(decode::decode_few(image, at), out)
 }
 
 // One of the rows that request A9 changes: the code has one.
-pub(crate) fn fill_changed(bs: &[u8], a: u8, out: &mut [u32], b: u8) -> u32
-    requires { (is_changed (change_at a (b / 16) (b % 16)) ≡ true) × (entries ≤ length out.old) × Small (run_row (by_manual.row_at a b) bs.now) }
+pub(crate) fn fill_changed(bs: &[u8], a: u8, out: &mut [u32; deliver::ENTRIES], b: u8) -> u32
+    requires { (is_changed (change_at a (b / 16) (b % 16)) ≡ true) × Small (run_row (by_manual.row_at a b) bs.now) }
     ensures { Filled (run_row (by_manual.row_at a b) bs.now) out.old result out.new }
 {
     let bytes = &bs[0..];
-    let all = &mut out[0..];
-    deliver::fill(decode_changed::decode_changed(bytes, a, b), all)
+    deliver::fill(decode_changed::decode_changed(bytes, a, b), out)
 }

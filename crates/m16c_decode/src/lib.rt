@@ -10,7 +10,7 @@ ghost use Rattle.by_manual.specs.Table.{by_manual, table_by};
 ghost use Rattle.m16c_decode.specs.Decoded.{Decodes};
 
 use decode_changed::asked;
-use record::refusal;
+use record::refusal::Refusal;
 
 // Decodes at a place of an image. Returns the refusal, 0 for none, and fills twenty entries: taken, opcode, size, width, three
 // operands, imm_wide, dispabs, first, length, marked, dropped, then offset and width of the bytes that first, dispabs and imm_wide were
@@ -18,36 +18,36 @@ use record::refusal;
 pub fn m16c_decode(image: &[u8], at: usize, out: &mut [u32]) -> u32
     ensures { Decodes document01 image.now at out.old result out.new }
 {
-    if out.len() < deliver::ENTRIES {
-        return refusal::TOO_LITTLE_ROOM as u32;
-    }
+    let Some(entries) = out.first_chunk_mut::<{ deliver::ENTRIES }>() else {
+        return u32::from(Refusal::TooLittleRoom);
+    };
     if image.len() < at {
-        return groups::fill_few(image, at, out);
+        return groups::fill_few(image, at, entries);
     }
     if image.len() - at < 2 {
-        return groups::fill_few(image, at, out);
+        return groups::fill_few(image, at, entries);
     }
     let bs = &image[at..];
     let a = bs[0];
     let b = bs[1];
     match a {
-        0x74 | 0x75 => groups::fill_74(bs, a % 2 == 0, out, b),
-        0x76 | 0x77 => groups::fill_76(bs, a % 2 == 0, out, b),
-        0x78 | 0x79 => groups::fill_78(bs, a % 2 == 0, out, b),
-        0x7A => groups::fill_7A(bs, b, out),
-        0x7B => groups::fill_7B(bs, b, out),
-        0x7C => groups::fill_7C(bs, b, out),
-        0x7D => groups::fill_7D(bs, b, out),
-        0x7E => groups::fill_7E(bs, b, out),
-        0xEB => groups::fill_EB(bs, b, out),
+        0x74 | 0x75 => groups::fill_74(bs, a % 2 == 0, entries, b),
+        0x76 | 0x77 => groups::fill_76(bs, a % 2 == 0, entries, b),
+        0x78 | 0x79 => groups::fill_78(bs, a % 2 == 0, entries, b),
+        0x7A => groups::fill_7A(bs, b, entries),
+        0x7B => groups::fill_7B(bs, b, entries),
+        0x7C => groups::fill_7C(bs, b, entries),
+        0x7D => groups::fill_7D(bs, b, entries),
+        0x7E => groups::fill_7E(bs, b, entries),
+        0xEB => groups::fill_EB(bs, b, entries),
         _ => {
             if 0xC1 < a {
-                return groups::fill_list(a, b, out);
+                return groups::fill_list(a, b, entries);
             }
             if decode_72::is_two(a) {
-                return groups::fill_two(bs, a, out, b);
+                return groups::fill_two(bs, a, entries, b);
             }
-            groups::fill_outside(out)
+            groups::fill_outside(entries)
         }
     }
 }
@@ -56,14 +56,14 @@ pub fn m16c_decode(image: &[u8], at: usize, out: &mut [u32]) -> u32
 pub fn m16c_decode_manual(image: &[u8], at: usize, out: &mut [u32]) -> u32
     ensures { Decodes by_manual image.now at out.old result out.new }
 {
-    if out.len() < deliver::ENTRIES {
-        return refusal::TOO_LITTLE_ROOM as u32;
-    }
+    let Some(entries) = out.first_chunk_mut::<{ deliver::ENTRIES }>() else {
+        return u32::from(Refusal::TooLittleRoom);
+    };
     if image.len() < at {
-        return groups::fill_few(image, at, out);
+        return groups::fill_few(image, at, entries);
     }
     if image.len() - at < 2 {
-        return groups::fill_few(image, at, out);
+        return groups::fill_few(image, at, entries);
     }
     let bs = &image[at..];
     let a = bs[0];
@@ -71,51 +71,51 @@ pub fn m16c_decode_manual(image: &[u8], at: usize, out: &mut [u32]) -> u32
     match a {
         0x74 | 0x75 => {
             if asked::in_74(b) {
-                return groups::fill_changed(bs, a, out, b);
+                return groups::fill_changed(bs, a, entries, b);
             }
-            groups::fill_74(bs, a % 2 == 0, out, b)
+            groups::fill_74(bs, a % 2 == 0, entries, b)
         }
         0x76 | 0x77 => {
             if asked::in_76(b) {
-                return groups::fill_changed(bs, a, out, b);
+                return groups::fill_changed(bs, a, entries, b);
             }
-            groups::fill_76(bs, a % 2 == 0, out, b)
+            groups::fill_76(bs, a % 2 == 0, entries, b)
         }
-        0x78 | 0x79 => groups::fill_78(bs, a % 2 == 0, out, b),
+        0x78 | 0x79 => groups::fill_78(bs, a % 2 == 0, entries, b),
         0x7A => {
             if asked::in_7A(b) {
-                return groups::fill_changed(bs, a, out, b);
+                return groups::fill_changed(bs, a, entries, b);
             }
-            groups::fill_7A(bs, b, out)
+            groups::fill_7A(bs, b, entries)
         }
-        0x7B => groups::fill_7B(bs, b, out),
+        0x7B => groups::fill_7B(bs, b, entries),
         0x7C => {
             if asked::in_7C(b) {
-                return groups::fill_changed(bs, a, out, b);
+                return groups::fill_changed(bs, a, entries, b);
             }
-            groups::fill_7C(bs, b, out)
+            groups::fill_7C(bs, b, entries)
         }
         0x7D => {
             if asked::in_7D(b) {
-                return groups::fill_changed(bs, a, out, b);
+                return groups::fill_changed(bs, a, entries, b);
             }
-            groups::fill_7D(bs, b, out)
+            groups::fill_7D(bs, b, entries)
         }
-        0x7E => groups::fill_7E(bs, b, out),
+        0x7E => groups::fill_7E(bs, b, entries),
         0xEB => {
             if asked::in_EB(b) {
-                return groups::fill_changed(bs, a, out, b);
+                return groups::fill_changed(bs, a, entries, b);
             }
-            groups::fill_EB(bs, b, out)
+            groups::fill_EB(bs, b, entries)
         }
         _ => {
             if 0xC1 < a {
-                return groups::fill_list(a, b, out);
+                return groups::fill_list(a, b, entries);
             }
             if decode_72::is_two(a) {
-                return groups::fill_two(bs, a, out, b);
+                return groups::fill_two(bs, a, entries, b);
             }
-            groups::fill_outside(out)
+            groups::fill_outside(entries)
         }
     }
 }
@@ -124,8 +124,8 @@ pub fn m16c_decode_manual(image: &[u8], at: usize, out: &mut [u32]) -> u32
 pub fn decode_into(manual: bool, image: &[u8], at: usize, out: &mut [u32]) -> u32
     ensures { Decodes (table_by manual) image.now at out.old result out.new }
 {
-    if out.len() < deliver::ENTRIES {
-        return refusal::TOO_LITTLE_ROOM as u32;
-    }
-    deliver::fill(decode::decode_by(manual, image, at), out)
+    let Some(entries) = out.first_chunk_mut::<{ deliver::ENTRIES }>() else {
+        return u32::from(Refusal::TooLittleRoom);
+    };
+    deliver::fill(decode::decode_by(manual, image, at), entries)
 }

@@ -2,7 +2,7 @@
 use Rattle.std.specs.Prelude.{ℕ, List}
 use Rattle.rows.specs.Row.{Table}
 use Rattle.sweep.specs.declared.Rule.{Rule}
-use Rattle.sweep.specs.declared.Swept.{Swept}
+use Rattle.sweep.specs.Swept.{Swept}
 use Rattle.sweep.specs.Sweep.{Sweeps}
 
 abbrev pub swept_in : (r count place refused read : ℕ) → Swept

@@ -4,7 +4,7 @@ use Rattle.std.proofs.Common.{◌≡◌, ℕ, List, length, replicate, sym, ap, 
 use Rattle.rows.specs.Groups.{document01}
 use Rattle.sweep.specs.Sweep.{Sweeps}
 use Rattle.sweep.specs.declared.Rule.{Rule}
-use Rattle.sweep.specs.declared.Swept.{Swept}
+use Rattle.sweep.specs.Swept.{Swept}
 use Rattle.sweep.proofs.Outcomes.{sweeps_once}
 use Rattle.replay.specs.Sweeping.{image_in, swept_in, starts_in, Begins, Right}
 

@@ -5,7 +5,7 @@ use Rattle.rows.specs.Groups.{document01}
 use Rattle.sweep.specs.Sweep.{Sweeps}
 use Rattle.sweep.specs.declared.Rule.{Rule}
 use Rattle.sweep.specs.declared.Rule.TheVariants.{GoOn, Stop}
-use Rattle.sweep.specs.declared.Swept.{Swept}
+use Rattle.sweep.specs.Swept.{Swept}
 use Rattle.laws.specs.Text.{spelled}
 use Rattle.replay.specs.Form.{Gives}
 use Rattle.replay.specs.Hex.{digit_at, byte_at, word_at, bytes_at}

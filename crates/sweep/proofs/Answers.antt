@@ -17,7 +17,8 @@ use Rattle.by_manual.proofs.Passing.{codes_passed, spaced_by}
 use Rattle.sweep.specs.declared.Rule.{Rule}
 use Rattle.sweep.specs.declared.Rule.TheVariants.{GoOn, Stop}
 use Rattle.sweep.specs.Walk.{walk}
-use Rattle.sweep.specs.Sweep.{last_step, refusal_of, total, Outcome, outcome, outcome_of, not_swept, whole}
+use Rattle.sweep.specs.Swept.{not_swept}
+use Rattle.sweep.specs.Sweep.{last_step, refusal_of, total, Outcome, outcome, outcome_of, whole}
 use Rattle.sweep.specs.Visits.{bytes_of, decodings}
 use Rattle.sweep.proofs.Walk.{by_table}
 use Rattle.sweep.proofs.Places.{counted}

@@ -9,8 +9,8 @@ use lib.ListN.{length, set}
 use Rattle.laws.proofs.Over.{put_none, put_one}
 use Rattle.record.specs.Answer.{Answer}
 use Rattle.sweep.specs.declared.Rule.{Rule}
-use Rattle.sweep.specs.declared.step.Step.{Step}
-use Rattle.sweep.specs.declared.step.Step.TheVariants.{End, Accepted, Refused}
+use Rattle.sweep.specs.Step.{Step}
+use Rattle.sweep.specs.Step.{End, Accepted, Refused}
 use Rattle.sweep.specs.Walk.{step_at, Walk, Onward, stop, on, onward, visit, walk}
 use Rattle.sweep.specs.Sweep.{is_accepted, places, refusal_of, taken, Outcome, outcome_of}
 use Rattle.sweep.specs.steps.Before.{outcome_in, behind}

@@ -9,7 +9,8 @@ use Rattle.rows.specs.Codes.{cond_of}
 use Rattle.rows.specs.Run.{decode_by, run_row, run, read_disp, read_into}
 use Rattle.sweep.specs.declared.Rule.TheVariants.{GoOn, Stop}
 use Rattle.sweep.specs.Walk.{step_at, go, walk}
-use Rattle.sweep.specs.Sweep.{whole, not_swept}
+use Rattle.sweep.specs.Swept.{not_swept}
+use Rattle.sweep.specs.Sweep.{whole}
 
 abbrev document : List ℕ
 document = 0x74 ∷ 0x0F ∷ 0x34 ∷ 0x12 ∷ 0x89 ∷ 0x67 ∷ 0xF5 ∷ 0x7D ∷ 0xC8 ∷ 0x05 ∷ 0xEB ∷ 0xC5 ∷ 0x7E ∷ 0xE0 ∷ []

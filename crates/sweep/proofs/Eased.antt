@@ -21,8 +21,8 @@ use Rattle.rows.proofs.Bytes.{at_bytes, drop_bytes}
 use Rattle.rows.proofs.Depth.{Passes, at_most_five}
 use Rattle.rows.proofs.Late.{Light, Spaced, behind}
 use Rattle.sweep.specs.declared.Rule.TheVariants.{GoOn}
-use Rattle.sweep.specs.declared.step.Step.{Step}
-use Rattle.sweep.specs.declared.step.Step.TheVariants.{End, Accepted, Refused}
+use Rattle.sweep.specs.Step.{Step}
+use Rattle.sweep.specs.Step.{End, Accepted, Refused}
 use Rattle.sweep.specs.Walk.{step_at, Walk, on, onward, visit, walk}
 use Rattle.sweep.specs.Sweep.{total, taken}
 use Rattle.sweep.proofs.Walk.{Advances, told, from, further, turned, along}

@@ -11,8 +11,8 @@ use lib.ListN.{length}
 use borrow.Author.Tests.{ltb-true, ltb-false}
 use Rattle.record.specs.Answer.{Answer}
 use Rattle.sweep.specs.declared.Rule.TheVariants.{GoOn}
-use Rattle.sweep.specs.declared.step.Step.{Step}
-use Rattle.sweep.specs.declared.step.Step.TheVariants.{End, Accepted, Refused}
+use Rattle.sweep.specs.Step.{Step}
+use Rattle.sweep.specs.Step.{End, Accepted, Refused}
 use Rattle.sweep.specs.Walk.{step_at, Walk, more, stop, on, onward, walk}
 use Rattle.sweep.specs.Sweep.{last_place, last_step, total}
 use Rattle.sweep.specs.Visits.{Visits, here, later, bytes_of, Belongs, InOne, Inside}

@@ -7,8 +7,8 @@ use native.Mathlib.Omega.{arith}
 use lib.ListN.{length}
 use Rattle.record.specs.Answer.{Answer}
 use Rattle.sweep.specs.declared.Rule.{Rule}
-use Rattle.sweep.specs.declared.step.Step.{Step}
-use Rattle.sweep.specs.declared.step.Step.TheVariants.{End, Accepted, Refused}
+use Rattle.sweep.specs.Step.{Step}
+use Rattle.sweep.specs.Step.{End, Accepted, Refused}
 use Rattle.sweep.specs.Walk.{step_at, Walk, last, more, stop, on, onward, walk}
 use Rattle.sweep.specs.Sweep.{is_accepted, is_refused, places, last_step, total}
 use Rattle.sweep.specs.Visits.{Visits, at_last, here, later, Rises, one, then, passed, decodings}

@@ -13,8 +13,8 @@ use Rattle.rows.specs.Run.{decode_by}
 use Rattle.rows.proofs.Bytes.{at_bytes, drop_bytes}
 use Rattle.rows.proofs.Depth.{Passes, at_most_six}
 use Rattle.sweep.specs.declared.Rule.TheVariants.{GoOn, Stop}
-use Rattle.sweep.specs.declared.step.Step.{Step}
-use Rattle.sweep.specs.declared.step.Step.TheVariants.{End, Accepted, Refused}
+use Rattle.sweep.specs.Step.{Step}
+use Rattle.sweep.specs.Step.{End, Accepted, Refused}
 use Rattle.sweep.specs.Walk.{step_at, Walk, on, onward, walk}
 use Rattle.sweep.specs.Sweep.{total, taken}
 use Rattle.sweep.proofs.Walk.{Advances, never, Told, told, from, further, along}

@@ -7,8 +7,8 @@ use mathlib.Core.List.{List, [], ◌∷◌}
 use Rattle.laws.specs.Choice.{pick}
 use Rattle.record.specs.Answer.{Answer}
 use Rattle.sweep.specs.declared.Rule.TheVariants.{GoOn, Stop}
-use Rattle.sweep.specs.declared.step.Step.{Step}
-use Rattle.sweep.specs.declared.step.Step.TheVariants.{End, Accepted, Refused}
+use Rattle.sweep.specs.Step.{Step}
+use Rattle.sweep.specs.Step.{End, Accepted, Refused}
 use Rattle.sweep.specs.Walk.{step_at, Walk, last, more, stop, on, onward, visit, walk}
 use Rattle.sweep.specs.Sweep.{is_accepted, is_refused, places, last_step, refusal_of}
 use Rattle.sweep.specs.Visits.{passed}

@@ -10,8 +10,8 @@ use Rattle.laws.proofs.Over.{put_none, put_one}
 use Rattle.record.specs.Answer.{Answer}
 use Rattle.sweep.specs.declared.Rule.{Rule}
 use Rattle.sweep.specs.declared.Rule.TheVariants.{GoOn, Stop}
-use Rattle.sweep.specs.declared.step.Step.{Step}
-use Rattle.sweep.specs.declared.step.Step.TheVariants.{End, Accepted, Refused}
+use Rattle.sweep.specs.Step.{Step}
+use Rattle.sweep.specs.Step.{End, Accepted, Refused}
 use Rattle.sweep.specs.Walk.{step_at, Walk, last, more, Onward, stop, on, onward, walk}
 use Rattle.sweep.specs.Sweep.{is_accepted, places, last_place, last_step, refusal_of, total, taken, Outcome}
 use Rattle.sweep.specs.steps.Before.{outcome_in, behind}

@@ -9,7 +9,7 @@ use Rattle.rows.specs.Row.{Table}
 use Rattle.rows.specs.Run.{decode_by}
 use Rattle.rows.proofs.Taken.{counted, takes_one}
 use Rattle.rows.proofs.Refusals.{four_takes_one}
-use Rattle.sweep.specs.declared.step.Step.TheVariants.{Refused}
+use Rattle.sweep.specs.Step.{Refused}
 use Rattle.sweep.specs.Walk.{step_at}
 use Rattle.sweep.specs.steps.Before.{Took}
 use Rattle.sweep.proofs.Walk.{told, from, by_table}

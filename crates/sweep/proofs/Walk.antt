@@ -16,8 +16,8 @@ use Rattle.rows.proofs.Taken.{counted}
 use Rattle.rows.proofs.Length.{at_least}
 use Rattle.sweep.specs.declared.Rule.{Rule}
 use Rattle.sweep.specs.declared.Rule.TheVariants.{GoOn, Stop}
-use Rattle.sweep.specs.declared.step.Step.{Step}
-use Rattle.sweep.specs.declared.step.Step.TheVariants.{End, Accepted, Refused}
+use Rattle.sweep.specs.Step.{Step}
+use Rattle.sweep.specs.Step.{End, Accepted, Refused}
 use Rattle.sweep.specs.Walk.{step_at, Walk, last, more, Onward, stop, on, onward, visit, go, walk}
 use Rattle.sweep.specs.Sweep.{is_accepted}
 use Rattle.sweep.specs.Visits.{bytes_of}

@@ -6,9 +6,9 @@ use Rattle.laws.specs.Over.{over}
 use Rattle.rows.specs.Row.{Table}
 use Rattle.rows.specs.Run.{decode_by}
 use Rattle.sweep.specs.declared.Rule.{Rule}
-use Rattle.sweep.specs.declared.Swept.{Swept}
-use Rattle.sweep.specs.declared.step.Step.{Step}
-use Rattle.sweep.specs.declared.step.Step.TheVariants.{End, Accepted, Refused}
+use Rattle.sweep.specs.Swept.{Swept, not_swept}
+use Rattle.sweep.specs.Step.{Step}
+use Rattle.sweep.specs.Step.{End, Accepted, Refused}
 use Rattle.sweep.specs.Walk.{Walk, last, more, walk}
 
 -- whether an instruction stands at a place, and whether a refusal does
@@ -71,10 +71,6 @@ outcome_of w ss = outcome (record {
   refused = length (places is_refused w);
   read = total taken w;
 }) (over (places is_accepted w) ss)
-
--- 0 for all but the refusal, no entry touched
-abbrev pub not_swept : ℕ → Swept
-not_swept e = record { refusal = e; count = 0; place = 0; refused = 0; read = 0 }
 
 -- 7 for an image over 4,096 bytes, then 6 for fewer entries than bytes
 unfoldable pub whole : Table → Rule → List ℕ → List ℕ → Outcome

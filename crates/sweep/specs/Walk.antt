@@ -4,8 +4,8 @@ use Rattle.laws.specs.Choice.{pick}
 use Rattle.record.specs.Answer.{Answer}
 use Rattle.sweep.specs.declared.Rule.{Rule}
 use Rattle.sweep.specs.declared.Rule.TheVariants.{GoOn, Stop}
-use Rattle.sweep.specs.declared.step.Step.{Step}
-use Rattle.sweep.specs.declared.step.Step.TheVariants.{End, Accepted, Refused}
+use Rattle.sweep.specs.Step.{Step}
+use Rattle.sweep.specs.Step.{End, Accepted, Refused}
 
 -- what an answer makes of a place: 0 is no refusal
 abbrev pub answered : Answer → Step

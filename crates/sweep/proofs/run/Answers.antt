@@ -5,7 +5,7 @@ use Rattle.std.proofs.Math.ListN.{length-set}
 use Rattle.rows.specs.Run.{decode_by}
 use Rattle.by_manual.specs.Table.{table_by}
 use Rattle.sweep.specs.declared.Rule.TheVariants.{Stop}
-use Rattle.sweep.specs.declared.step.Step.{Step}
+use Rattle.sweep.specs.Step.{Step}
 use Rattle.sweep.specs.Walk.{step_at, onward, walk}
 use Rattle.sweep.specs.Sweep.{taken, Outcome}
 use Rattle.sweep.specs.steps.Before.{behind}

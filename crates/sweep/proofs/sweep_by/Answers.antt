@@ -5,10 +5,10 @@ use borrow.Author.Tests.{lt-ltb, le-ltb}
 use Rattle.rows.specs.Row.{Table}
 use Rattle.rows.specs.Run.{decode_by}
 use Rattle.sweep.specs.declared.Rule.{Rule}
-use Rattle.sweep.specs.declared.Swept.{Swept}
 use Rattle.sweep.specs.declared.Stopped.{Stopped}
 use Rattle.sweep.specs.Walk.{walk}
-use Rattle.sweep.specs.Sweep.{outcome, not_swept, whole, Sweeps}
+use Rattle.sweep.specs.Swept.{Swept, not_swept}
+use Rattle.sweep.specs.Sweep.{outcome, whole, Sweeps}
 use Rattle.sweep.specs.steps.Before.{behind, Runs}
 use Rattle.sweep.proofs.Walk.{by_table}
 use Rattle.sweep.proofs.Before.{none_before}

@@ -5,7 +5,7 @@ use Rattle.by_manual.specs.Table.{table_by}
 use Rattle.rows.specs.Row.{Table}
 use Rattle.rows.specs.Run.{decode_by}
 use Rattle.sweep.specs.declared.Rule.{Rule}
-use Rattle.sweep.specs.declared.step.Step.{Step}
+use Rattle.sweep.specs.Step.{Step}
 use Rattle.sweep.specs.Walk.{step_at, onward}
 use Rattle.sweep.proofs.Walk.{told, bytes_left, further, by_table}
 use Rattle.listing.specs.Listing.{line_at}

@@ -1,6 +1,6 @@
 -- The text has room for a newline behind it, since no line is longer than 120 characters.
 use Rattle.std.proofs.Common.{ℕ, ◌<◌, ◌≤◌, List, length, arith}
-use Rattle.sweep.specs.declared.step.Step.{Step}
+use Rattle.sweep.specs.Step.{Step}
 use Rattle.listing.specs.Listing.{step_text}
 use Rattle.listing.proofs.Lines.{line_longer, line_room, long, same_length, closed}
 use Rattle.listing.proofs.page.put_line.Goals as goal

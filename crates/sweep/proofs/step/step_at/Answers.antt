@@ -3,7 +3,7 @@
 use Rattle.std.proofs.Common.{◌≡◌, length, ap, ◌∙◌, arith}
 use borrow.Author.Tests.{le-leb, lt-leb, eq-eqb, ne_eqb}
 use Rattle.record.specs.Answer.{Answer}
-use Rattle.sweep.specs.declared.step.Step.TheVariants.{Accepted, Refused}
+use Rattle.sweep.specs.Step.{Accepted, Refused}
 use Rattle.sweep.specs.Walk.{answered, step_at}
 use Rattle.sweep.proofs.step.step_at.Goals as goal
 
