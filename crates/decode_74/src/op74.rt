@@ -1,12 +1,16 @@
 ghost use Rattle.std.specs.Prelude.{◌≡◌, ◌/◌, ◌%◌, ◌<◌};
+ghost use Rattle.laws.specs.Choice.{pick};
+ghost use Rattle.record.specs.Answer.{answer_of};
 ghost use Rattle.rows.specs.Rows.{row74};
 ghost use Rattle.rows.specs.Run.{run_row};
-ghost use Rattle.readers.specs.steps.Told.{reading_in};
+ghost use Rattle.readers.specs.steps.Told.{found_in};
 ghost use Rattle.readers.specs.steps.Width.{width_of};
 ghost use Rattle.decode_74.specs.steps.Op74.{size74, other74, rest74, stop74};
 
+use readers::answer::{Decoded, Face};
 use readers::{answer, general, numbers, set};
-use record::{Answer, Got, Opcode, Operand, Seen, Size, refusal};
+use record::refusal::{Refusal, Refused};
+use record::{Opcode, Operand, Seen, Size};
 
 const OPCODES: [Opcode; 16] = [
     Opcode::STE,
@@ -82,8 +86,8 @@ fn stop_74(byte: bool, h: u8, n: u8) -> bool
 }
 
 // What stands behind G(n): 20 bits for STE and LDE at h mod 8 = 0, 1.
-fn rest_74(bs: &[u8], byte: bool, h: u8, s: Seen) -> Got
-    ensures { result ≡ reading_in (rest74 (width_of byte) h) bs.now s }
+fn rest_74(bs: &[u8], byte: bool, h: u8, s: Seen) -> Result<Seen, Refused>
+    ensures { result ≡ found_in (rest74 (width_of byte) h) bs.now s }
 {
     if h % 8 < 2 {
         return numbers::long20(bs, s);
@@ -94,34 +98,37 @@ fn rest_74(bs: &[u8], byte: bool, h: u8, s: Seen) -> Got
     if h == 12 {
         return numbers::immediate(bs, byte, s);
     }
-    Got::On(s)
+    Ok(s)
 }
 
-pub fn decode_op74(bs: &[u8], byte: bool, b: u8) -> Answer
-    ensures { result ≡ run_row (row74 (width_of byte) (b / 16) (b % 16)) bs.now }
+fn in_order(first: bool, name: Operand, other: Operand) -> (Operand, Operand)
+    ensures { (result.0 ≡ pick first name other) × (result.1 ≡ pick first other name) }
+{
+    if first { (name, other) } else { (other, name) }
+}
+
+pub fn decode_op74(bs: &[u8], byte: bool, b: u8) -> Decoded
+    ensures { answer_of result ≡ run_row (row74 (width_of byte) (b / 16) (b % 16)) bs.now }
 {
     let h = b / 16;
     let n = b % 16;
     if stop_74(byte, h, n) {
-        return answer::refuse(refusal::INVALID_OPERAND, 2);
+        return answer::refuse(Refusal::InvalidOperand, 2);
     }
+    let s = general::general(bs, answer::BEGIN, n)?;
+    let t = rest_74(bs, byte, h, s)?;
     let name = general::general_name(byte, b);
     let other = other_74(byte, h);
-    let o = OPCODES[h as usize];
-    let z = size_74(byte, h);
     // whether G(n) is operand 0
     let first = (h < 6) | (h == 7) | (h == 13);
-    let w = answer::width_of(byte);
-    match general::general(bs, answer::BEGIN, n) {
-        Got::Short => answer::refuse(refusal::EXHAUSTED_INPUT, bs.len()),
-        Got::On(s) => match rest_74(bs, byte, h, s) {
-            Got::Short => answer::refuse(refusal::EXHAUSTED_INPUT, bs.len()),
-            Got::On(t) => {
-                if first {
-                    return answer::accept(o, z, w, name, other, h == 3, t);
-                }
-                answer::accept(o, z, w, other, name, h == 3, t)
-            }
-        },
-    }
+    let (op0, op1) = in_order(first, name, other);
+    let face = Face {
+        opcode: OPCODES[h as usize],
+        size: size_74(byte, h),
+        width: answer::width_of(byte),
+        op0,
+        op1,
+        marked: h == 3,
+    };
+    Ok(face.with(t))
 }

@@ -1,11 +1,15 @@
-ghost use Rattle.std.specs.Prelude.{◌≡◌, ◌/◌, ◌%◌};
-ghost use Rattle.rows.specs.Rows.{row76};
+ghost use Rattle.std.specs.Prelude.{◌≡◌, eqb, ◌/◌, ◌%◌};
+ghost use Rattle.laws.specs.Choice.{pick};
+ghost use Rattle.record.specs.declared.Size.TheVariants.{None};
+ghost use Rattle.record.specs.Answer.{answer_of};
+ghost use Rattle.rows.specs.Rows.{row76, size_of};
 ghost use Rattle.rows.specs.Run.{run_row};
 ghost use Rattle.readers.specs.steps.Width.{width_of};
 ghost use Rattle.decode_74.specs.steps.Op76.{unary76, immediate76, both76};
 
+use readers::answer::{Decoded, Face};
 use readers::{answer, general, numbers, set};
-use record::{Answer, Got, Opcode, Operand, Size, refusal};
+use record::{Opcode, Operand, Size};
 
 const OPCODES: [Opcode; 16] = [
     Opcode::TST,
@@ -26,63 +30,69 @@ const OPCODES: [Opcode; 16] = [
     Opcode::ABS,
 ];
 
-// ROLC, RORC, DIV and ABS: G(n) alone. Only DIV carries a size.
-fn unary_76(bs: &[u8], byte: bool, b: u8) -> Answer
-    ensures { result ≡ run_row (unary76 (width_of byte) (b / 16) (b % 16)) bs.now }
+// Only DIV carries a size.
+fn unary_size(byte: bool, h: u8) -> Size
+    ensures { result ≡ pick (eqb h 13) (size_of (width_of byte)) None }
+{
+    if h == 13 {
+        return answer::size_of(byte);
+    }
+    Size::None
+}
+
+// ROLC, RORC, DIV and ABS: G(n) alone.
+fn unary_76(bs: &[u8], byte: bool, b: u8) -> Decoded
+    ensures { answer_of result ≡ run_row (unary76 (width_of byte) (b / 16) (b % 16)) bs.now }
 {
     let h = b / 16;
-    let name = general::general_name(byte, b);
-    let o = OPCODES[h as usize];
-    let got = general::general(bs, answer::BEGIN, b % 16);
-    let w = answer::width_of(byte);
-    if h == 13 {
-        let z = answer::size_of(byte);
-        return answer::finish(bs, got, o, z, w, name, Operand::Nothing, false);
-    }
-    answer::finish(bs, got, o, Size::None, w, name, Operand::Nothing, false)
+    let s = general::general(bs, answer::BEGIN, b % 16)?;
+    let face = Face {
+        opcode: OPCODES[h as usize],
+        size: unary_size(byte, h),
+        width: answer::width_of(byte),
+        op0: general::general_name(byte, b),
+        op1: Operand::Nothing,
+        marked: false,
+    };
+    Ok(face.with(s))
 }
 
 // DIVX and DIVU: the immediate alone, n is ignored.
-fn immediate_76(bs: &[u8], byte: bool, b: u8) -> Answer
-    ensures { result ≡ run_row (immediate76 (width_of byte) (b / 16)) bs.now }
+fn immediate_76(bs: &[u8], byte: bool, b: u8) -> Decoded
+    ensures { answer_of result ≡ run_row (immediate76 (width_of byte) (b / 16)) bs.now }
 {
-    let o = OPCODES[(b / 16) as usize];
-    let got = numbers::immediate(bs, byte, answer::BEGIN);
-    let z = answer::size_of(byte);
-    let w = answer::width_of(byte);
-    let name = numbers::immediate_name(byte);
-    answer::finish(bs, got, o, z, w, name, Operand::Nothing, true)
+    let s = numbers::immediate(bs, byte, answer::BEGIN)?;
+    let face = Face {
+        opcode: OPCODES[(b / 16) as usize],
+        size: answer::size_of(byte),
+        width: answer::width_of(byte),
+        op0: numbers::immediate_name(byte),
+        op1: Operand::Nothing,
+        marked: true,
+    };
+    Ok(face.with(s))
 }
 
 // TST to CMP, and ADCF: G(n) is read before the immediate.
-fn both_76(bs: &[u8], byte: bool, b: u8) -> Answer
-    ensures { result ≡ run_row (both76 (width_of byte) (b / 16) (b % 16)) bs.now }
+fn both_76(bs: &[u8], byte: bool, b: u8) -> Decoded
+    ensures { answer_of result ≡ run_row (both76 (width_of byte) (b / 16) (b % 16)) bs.now }
 {
     let h = b / 16;
-    let name = general::general_name(byte, b);
-    let o = OPCODES[h as usize];
-    match general::general(bs, answer::BEGIN, b % 16) {
-        Got::Short => answer::refuse(refusal::EXHAUSTED_INPUT, bs.len()),
-        Got::On(s) => {
-            let got = numbers::immediate(bs, byte, s);
-            let z = answer::size_of(byte);
-            let w = answer::width_of(byte);
-            answer::finish(
-                bs,
-                got,
-                o,
-                z,
-                w,
-                numbers::immediate_name(byte),
-                name,
-                h == 14,
-            )
-        }
-    }
+    let s = general::general(bs, answer::BEGIN, b % 16)?;
+    let t = numbers::immediate(bs, byte, s)?;
+    let face = Face {
+        opcode: OPCODES[h as usize],
+        size: answer::size_of(byte),
+        width: answer::width_of(byte),
+        op0: numbers::immediate_name(byte),
+        op1: general::general_name(byte, b),
+        marked: h == 14,
+    };
+    Ok(face.with(t))
 }
 
-pub fn decode_op76(bs: &[u8], byte: bool, b: u8) -> Answer
-    ensures { result ≡ run_row (row76 (width_of byte) (b / 16) (b % 16)) bs.now }
+pub fn decode_op76(bs: &[u8], byte: bool, b: u8) -> Decoded
+    ensures { answer_of result ≡ run_row (row76 (width_of byte) (b / 16) (b % 16)) bs.now }
 {
     let h = b / 16;
     // DIVX and DIVU

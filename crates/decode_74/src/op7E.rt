@@ -1,12 +1,18 @@
-ghost use Rattle.std.specs.Prelude.{◌≡◌, [], ◌∷◌, ◌/◌, ◌%◌};
+ghost use Rattle.std.specs.Prelude.{◌≡◌, false, Ok, [], ◌∷◌, ◌/◌, ◌%◌};
 ghost use Rattle.record.specs.declared.Opcode.TheVariants.{NOP};
+ghost use Rattle.record.specs.Answer.{answer_of};
+ghost use Rattle.record.specs.declared.Operand.TheVariants.{Nothing};
+ghost use Rattle.record.specs.declared.Size.TheVariants as size;
+ghost use Rattle.record.specs.declared.Width.TheVariants as width;
 ghost use Rattle.rows.specs.Row.{cond};
 ghost use Rattle.rows.specs.Rows.{row_7E};
-ghost use Rattle.rows.specs.Run.{run, run_row};
+ghost use Rattle.rows.specs.Run.{accepted, run, run_row};
 ghost use Rattle.decode_74.specs.steps.Op7E.{bit_face};
 
+use readers::answer::{Decoded, Face};
 use readers::{answer, bit};
-use record::{Answer, Got, Opcode, Operand, Seen, Size, Width, refusal};
+use record::refusal::Refusal;
+use record::{Opcode, Operand, Record, Seen, Size, Width};
 
 // At 2 stands BMcnd, whose condition byte names it.
 const OPCODES: [Opcode; 14] = [
@@ -46,46 +52,55 @@ const CONDITIONS: [Opcode; 16] = [
     Opcode::NOP,
 ];
 
+// A row of a bit has no size and no width.
+fn bit_row(opcode: Opcode, name: Operand, s: Seen) -> Record
+    ensures { answer_of (Ok result) ≡ accepted opcode size.None width.None name Nothing false s }
+{
+    let face = Face {
+        opcode,
+        size: Size::None,
+        width: Width::None,
+        op0: name,
+        op1: Operand::Nothing,
+        marked: false,
+    };
+    face.with(s)
+}
+
 // The condition byte of BMcnd, and the record.
-fn conditional(bs: &[u8], name: Operand, s: Seen) -> Answer
-    ensures { result ≡ run (cond ∷ []) bs.now (bit_face NOP name) s }
+fn conditional(bs: &[u8], name: Operand, s: Seen) -> Decoded
+    ensures { answer_of result ≡ run (cond ∷ []) bs.now (bit_face NOP name) s }
 {
     let at = s.taken;
     if bs.len() <= at {
-        return answer::refuse(refusal::EXHAUSTED_INPUT, bs.len());
+        return answer::refuse(Refusal::ExhaustedInput, bs.len());
     }
     let c = bs[at];
-    let o = CONDITIONS[(c % 16) as usize];
-    let mut t = s;
-    t.taken = at + 1;
+    let t = Seen { taken: at + 1, ..s };
+    let row = bit_row(CONDITIONS[(c % 16) as usize], name, t);
     if c < 0x07 {
-        return answer::accept(o, Size::None, Width::None, name, Operand::Nothing, false, t);
+        return Ok(row);
     }
     if c < 0xF8 {
-        return answer::refuse(refusal::INVALID_OPCODE, at + 1);
+        return answer::refuse(Refusal::InvalidOpcode, at + 1);
     }
     if c < 0xFF {
-        return answer::accept(o, Size::None, Width::None, name, Operand::Nothing, false, t);
+        return Ok(row);
     }
-    answer::refuse(refusal::INVALID_OPCODE, at + 1)
+    answer::refuse(Refusal::InvalidOpcode, at + 1)
 }
 
-pub fn decode_op7E(bs: &[u8], b: u8) -> Answer
-    ensures { result ≡ run_row (row_7E (b / 16) (b % 16)) bs.now }
+pub fn decode_op7E(bs: &[u8], b: u8) -> Decoded
+    ensures { answer_of result ≡ run_row (row_7E (b / 16) (b % 16)) bs.now }
 {
     let h = b / 16;
     if 14 <= h {
-        return answer::refuse(refusal::INVALID_OPCODE, 2);
+        return answer::refuse(Refusal::InvalidOpcode, 2);
     }
     let name = bit::bit_name(b);
-    let o = OPCODES[h as usize];
-    match bit::bit(bs, answer::BEGIN, b % 16) {
-        Got::Short => answer::refuse(refusal::EXHAUSTED_INPUT, bs.len()),
-        Got::On(s) => {
-            if h == 2 {
-                return conditional(bs, name, s);
-            }
-            answer::accept(o, Size::None, Width::None, name, Operand::Nothing, false, s)
-        }
+    let s = bit::bit(bs, answer::BEGIN, b % 16)?;
+    if h == 2 {
+        return conditional(bs, name, s);
     }
+    Ok(bit_row(OPCODES[h as usize], name, s))
 }

@@ -1,6 +1,5 @@
 -- Two operands' tags are equal exactly if their numbers are: `==`, which compares tags, is `same_name`.
 -- Assumes nothing.
-use Prim.Native.Nat.{ℕ}
 use mathlib.Core.Path.{◌≡◌, ap₂}
 use lib.Dec.{eqb, eqb→eq}
 use denote.Enum.Declared.{tag_of}

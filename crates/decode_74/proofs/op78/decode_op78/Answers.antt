@@ -14,9 +14,23 @@ use Rattle.decode_74.proofs.op78.decode_op78.Goals as goal
 
 pub returns-in_err-s : goal.returns-in_err-s
 unfolding run_row row row78
-returns-in_err-s c = ends _ _ _ _ (first _ _ c.general.ensures) _ _ c.in_err-s.was c.from_residual.ensures.1
+returns-in_err-s c = ends _ _ _ _ (first _ _ c.general.ensures) _ c.from_residual.result c.in_err-s.was c.from_residual.ensures.1
 
 pub returns-then-bad_mul : goal.returns-then-bad_mul
 unfolding run_row row row78
 returns-then-bad_mul c = goes _ _ _ _ (first _ _ c.general.ensures) _ c.in_ok-s.was
     (rw (sym c.bad_mul.ensures ∙ c.if-bad_mul.true) (stops InvalidOperand _ _ _ _ (ap answer_of c.refuse.ensures)))
+
+pub returns-in_err-t : goal.returns-in_err-t
+unfolding run_row row row78
+returns-in_err-t c = goes _ _ _ _ (first _ _ c.general.ensures) _ c.in_ok-s.was
+    (rw (sym c.bad_mul.ensures ∙ c.if-bad_mul.false)
+    (ends _ _ _ _ (near _ _ _ (behind_general (c.args.b / 16) c.args.bs.now c.general.ensures c.in_ok-s.was) c.general-2.ensures) _ c.from_residual-in_err-t.result c.in_err-t.was c.from_residual-in_err-t.ensures.1))
+
+pub returns : goal.returns
+unfolding run_row row row78
+returns c = goes _ _ _ _ (first _ _ c.general.ensures) _ c.in_ok-s.was
+    (rw (sym c.bad_mul.ensures ∙ c.if-bad_mul.false)
+    (goes _ _ _ _ (near _ _ _ (behind_general (c.args.b / 16) c.args.bs.now c.general.ensures c.in_ok-s.was) c.general-2.ensures) _ c.in_ok-t.was
+    (done _ refl _ c.with.ensures refl refl c.width_of.ensures
+    (named_high (width_of c.args.byte) c.args.b (omega (arith, c.ranges.b)) c.general_name.ensures) c.general_name-2.ensures refl)))

@@ -1,6 +1,7 @@
 -- `decode_74::op7E::decode_op7E` meets its contract.
 use Prim.Native.Nat.{ℕ, ◌/◌, ◌%◌, ◌<◌}
-use mathlib.Core.Path.{◌≡◌, refl}
+use mathlib.Core.Path.{◌≡◌, refl, ap}
+use Rattle.record.specs.Answer.{answer_of}
 use native.Mathlib.Omega.{arith}
 use borrow.Author.Tests.{le-leb, lt-leb, ne_eqb}
 use Rattle.readers.proofs.Told.{first}
@@ -16,22 +17,22 @@ tabled b l = tables_7E _ _ (omega arith)
 
 pub returns-then-h-ge14 : goal.returns-then-h-ge14
 unfolding run_row row
-returns-then-h-ge14 c = rw (tabled c.args.b (omega arith), le-leb _ _ c.if-h-ge14.true) (stops InvalidOpcode _ _ _ _ c.refuse.ensures)
+returns-then-h-ge14 c = rw (tabled c.args.b (omega arith), le-leb _ _ c.if-h-ge14.true) (stops InvalidOpcode _ _ _ _ (ap answer_of c.refuse.ensures))
 
 pub returns-then-h-eq2 : goal.returns-then-h-eq2
 unfolding run_row row
 returns-then-h-eq2 c =
     rw (tabled c.args.b (omega arith), lt-leb _ _ c.if-h-ge14.false, c.if-h-eq2.true)
-    (goes _ _ _ _ (first _ _ c.bit.ensures) _ c.in-On.is (operand_named _ _ _ c.conditional.ensures c.bit_name-name.ensures))
+    (goes _ _ _ _ (first _ _ c.bit.ensures) _ c.in_ok-s.was (operand_named _ _ _ c.conditional.ensures c.bit_name-name.ensures))
 
-pub returns-in-Short : goal.returns-in-Short
+pub returns-in_err-s : goal.returns-in_err-s
 unfolding run_row row
-returns-in-Short c =
+returns-in_err-s c =
     rw (tabled c.args.b (omega arith), lt-leb _ _ c.if-h-ge14.false)
-    (ends _ _ _ _ (first _ _ c.bit.ensures) _ c.in-Short.is c.refuse-in-Short.ensures)
+    (ends _ _ _ _ (first _ _ c.bit.ensures) _ c.from_residual.result c.in_err-s.was c.from_residual.ensures.1)
 
-pub returns-else-h-eq2 : goal.returns-else-h-eq2
+pub returns : goal.returns
 unfolding run_row row
-returns-else-h-eq2 c =
+returns c =
     rw (tabled c.args.b (omega arith), lt-leb _ _ c.if-h-ge14.false, ne_eqb _ 2 c.if-h-eq2.false)
-    (goes _ _ _ _ (first _ _ c.bit.ensures) _ c.in-On.is (done _ refl _ c.accept.ensures refl refl refl c.bit_name-name.ensures refl refl))
+    (goes _ _ _ _ (first _ _ c.bit.ensures) _ c.in_ok-s.was (done _ refl _ c.bit_row.ensures refl refl refl c.bit_name-name.ensures refl refl))
