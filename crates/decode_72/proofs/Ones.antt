@@ -2,14 +2,9 @@
 -- Assumes nothing.
 use Prim.Native.Nat.{ℕ, ◌<◌}
 use mathlib.Core.Path.{◌≡◌, refl}
-use native.Mathlib.Omega.{arith}
-use lib.Count.{ones, ones-le}
+use lib.Count.{ones}
 use Rattle.laws.proofs.Agree.{agree}
 use Rattle.rows.specs.RegisterList.{registers_in}
-
--- and eight at most, whatever the byte
-pub few : (b : ℕ) → b < 256 → ones b < 256
-few b l = omega (arith, ones-le 8 b l)
 
 pub eight_bits : (b : ℕ) → b < 256 → ones b ≡ registers_in b
 unfolding ones registers_in

@@ -2,7 +2,7 @@
 -- Assumes nothing.
 use Prim.Native.Nat.{ℕ, ◌%◌, ◌<◌}
 use mathlib.Core.Path.{◌≡◌, refl}
-use mathlib.Core.Bool.{true}
+use mathlib.Core.Bool.{Bool, true}
 use lib.Dec.{eqb}
 use Rattle.laws.specs.Choice.{pick}
 use Rattle.laws.proofs.Agree.{agree}
@@ -15,25 +15,30 @@ use Rattle.readers.specs.steps.Width.{width_of}
 use Rattle.decode_72.specs.steps.Added.{is_two, is_list, opcode_of, list_opcode}
 
 module _ (h n : ℕ) where
-  abbrev none : Row
-  none = refused InvalidOpcode
-
   abbrev pub two_at : ℕ → Row
   two_at a = two (opcode_of a) (width_of (eqb (a % 2) 0)) h n
 
   abbrev pub list_at : ℕ → Row
   list_at a = list (list_opcode a) h n
 
-  told_two : (a : ℕ) → a < 256 → pick (is_two a) (rows_of a h n) none ≡ pick (is_two a) (two_at a) none
+  -- a row where the test holds, and none elsewhere
+  abbrev where_told : (ℕ → Bool) → (ℕ → Row) → ℕ → Row
+  where_told test row a = pick (test a) (row a) (refused InvalidOpcode)
+
+  -- rows that are the same in all 256 cases are so where the test holds
+  there : (test : ℕ → Bool) (row : ℕ → Row) (a : ℕ) → where_told test (λ a. rows_of a h n) a ≡ where_told test row a → test a ≡ true → rows_of a h n ≡ row a
+  there test row a told e = rw e at told
+
+  told_two : (a : ℕ) → a < 256 → where_told is_two (λ a. rows_of a h n) a ≡ where_told is_two two_at a
   unfolding is_two rows_of two
-  told_two = agree (λ a. pick (is_two a) (rows_of a h n) none) (λ a. pick (is_two a) (two_at a) none) 256 refl
+  told_two = agree (where_told is_two (λ a. rows_of a h n)) (where_told is_two two_at) 256 refl
+
+  told_list : (a : ℕ) → a < 256 → where_told is_list (λ a. rows_of a h n) a ≡ where_told is_list list_at a
+  unfolding is_list rows_of list
+  told_list = agree (where_told is_list (λ a. rows_of a h n)) (where_told is_list list_at) 256 refl
 
   pub two_rows : (a : ℕ) → a < 256 → is_two a ≡ true → rows_of a h n ≡ two_at a
-  two_rows a l e = rw e at (told_two a l)
-
-  told_list : (a : ℕ) → a < 256 → pick (is_list a) (rows_of a h n) none ≡ pick (is_list a) (list_at a) none
-  unfolding is_list rows_of list
-  told_list = agree (λ a. pick (is_list a) (rows_of a h n) none) (λ a. pick (is_list a) (list_at a) none) 256 refl
+  two_rows a l = there is_two two_at a (told_two a l)
 
   pub list_rows : (a : ℕ) → a < 256 → is_list a ≡ true → rows_of a h n ≡ list_at a
-  list_rows a l e = rw e at (told_list a l)
+  list_rows a l = there is_list list_at a (told_list a l)

@@ -7,12 +7,14 @@ pub mod list; // EC and ED
 
 ghost use Rattle.std.specs.Prelude.{◌≡◌, ◌/◌, ◌%◌};
 ghost use Rattle.laws.specs.Choice.{pick};
+ghost use Rattle.record.specs.Answer.{answer_of};
 ghost use Rattle.rows.specs.Groups.{rows_of};
 ghost use Rattle.rows.specs.Run.{refusal, run_row};
 ghost use Rattle.decode_72.specs.steps.Added.{is_two, is_list, is_added};
 
 use readers::answer;
-use record::{Answer, refusal};
+use readers::answer::Decoded;
+use record::refusal::Refusal;
 
 // 72 and 73; behind 7E, to C1, the first two of each eight, of which 7F is none.
 #[tactic(auto, unfolding(crate::specs::steps::Added::is_two))]
@@ -41,23 +43,18 @@ pub fn is_list(a: u8) -> bool
 pub fn is_added(a: u8) -> bool
     ensures { result ≡ is_added a }
 {
-    if is_two(a) {
-        return true;
-    }
-    is_list(a)
+    is_two(a) || is_list(a)
 }
 
-// One of these groups, or a first byte outside. The lists are behind all pairs, and asked for there alone.
-pub fn decode_added(bs: &[u8], a: u8, b: u8) -> Answer
-    ensures { result ≡ pick (is_added a) (run_row (rows_of a (b / 16) (b % 16)) bs.now) (refusal 4 1) }
+// One of these groups, or a first byte outside. Lists are asked for behind all pairs alone: so the sweep takes less (docs/DECISIONS.md).
+pub fn decode_added(bs: &[u8], a: u8, b: u8) -> Decoded
+    ensures { answer_of result ≡ pick (is_added a) (run_row (rows_of a (b / 16) (b % 16)) bs.now) (refusal 4 1) }
 {
     if is_two(a) {
         return two::decode_two(bs, a, b);
     }
-    if 0xC1 < a {
-        if is_list(a) {
-            return list::decode_list(a, b);
-        }
+    if 0xC1 < a && is_list(a) {
+        return list::decode_list(a, b);
     }
-    answer::refuse(refusal::FIRST_BYTE_OUTSIDE, 1)
+    answer::refuse(Refusal::FirstByteOutside, 1)
 }

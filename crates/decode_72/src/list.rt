@@ -1,16 +1,19 @@
 ghost use Rattle.std.specs.Prelude.{◌≡◌, List, ℕ, ◌/◌, ◌%◌};
+ghost use Rattle.record.specs.Answer.{answer_of};
 ghost use Rattle.rows.specs.RegisterList.{list, registers_in};
 ghost use Rattle.rows.specs.Run.{run_row};
 ghost use Rattle.decode_72.specs.steps.Added.{list_opcode};
 
 use readers::answer;
-use record::{Answer, Opcode, Operand, Size, Width};
+use readers::answer::{Decoded, Face};
+use record::{Opcode, Operand, Record, Size, Width};
 
 // How many registers a list names.
+#[tactic(auto, using(crate::proofs::Ones::eight_bits))]
 fn registers_in(b: u8) -> u8
     ensures { result ≡ registers_in b }
 {
-    u8::count_ones(b) as u8
+    b.count_ones() as u8
 }
 
 fn list_opcode(a: u8) -> Opcode
@@ -24,19 +27,19 @@ fn list_opcode(a: u8) -> Opcode
 }
 
 // PUSHM and POPM: the list is part of the code.
-pub fn decode_list(a: u8, b: u8) -> Answer
-    ensures { (bs : List ℕ) → result ≡ run_row (list (list_opcode a) (b / 16) (b % 16)) bs }
+pub fn decode_list(a: u8, b: u8) -> Decoded
+    ensures { (bs : List ℕ) → answer_of result ≡ run_row (list (list_opcode a) (b / 16) (b % 16)) bs }
 {
-    let mut x = answer::accept(
-        list_opcode(a),
-        Size::None,
-        Width::None,
-        Operand::RegList,
-        Operand::Nothing,
-        false,
-        answer::begin(b as u32),
-    );
-    let count = registers_in(b);
-    x.inst.registers = count;
-    x
+    let face = Face {
+        opcode: list_opcode(a),
+        size: Size::None,
+        width: Width::None,
+        op0: Operand::RegList,
+        op1: Operand::Nothing,
+        marked: false,
+    };
+    Ok(Record {
+        registers: registers_in(b),
+        ..face.with(answer::begin(u32::from(b)))
+    })
 }

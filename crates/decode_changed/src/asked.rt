@@ -48,8 +48,5 @@ pub fn in_7D(b: u8) -> bool
 pub fn in_EB(b: u8) -> bool
     ensures { result ≡ is_changed (change_EB (b / 16) (b % 16)) }
 {
-    if b < 0x80 {
-        return b % 16 / 2 == 2;
-    }
-    false
+    b < 0x80 && b % 16 / 2 == 2
 }

@@ -1,66 +1,76 @@
 // The rows that read G(n).
 ghost use Rattle.std.specs.Prelude.{◌≡◌, ◌/◌, ◌%◌};
+ghost use Rattle.record.specs.Answer.{answer_of};
 ghost use Rattle.rows.specs.Run.{run_row};
 ghost use Rattle.readers.specs.steps.Width.{width_of};
 ghost use Rattle.by_manual.specs.Changed.{to_stack, alone, ldc, name_JW, word_jump};
 ghost use Rattle.decode_changed.specs.steps.Rows.{alone_opcode, jump_opcode, mul_opcode, mul_size, mul_at};
 
+use readers::answer::{Decoded, Face};
 use readers::{answer, control, general, long, mul, numbers};
-use record::{Answer, Got, Opcode, Operand, Size, Width, refusal};
+use record::refusal::Refusal;
+use record::{Opcode, Operand, Size, Width};
 
 // 74/75 3n, MOV to the stack: the source is read, then SP's byte.
-pub fn to_stack(bs: &[u8], byte: bool, b: u8) -> Answer
-    ensures { result ≡ run_row (to_stack (width_of byte) (b % 16)) bs.now }
+pub fn to_stack(bs: &[u8], byte: bool, b: u8) -> Decoded
+    ensures { answer_of result ≡ run_row (to_stack (width_of byte) (b % 16)) bs.now }
 {
-    let source = general::general_name(byte, b);
-    match general::general(bs, answer::BEGIN, b % 16) {
-        Got::Short => answer::refuse(refusal::EXHAUSTED_INPUT, bs.len()),
-        Got::On(s) => {
-            let got = numbers::disp_byte(bs, s);
-            let z = answer::size_of(byte);
-            let w = answer::width_of(byte);
-            answer::finish(bs, got, Opcode::MOV, z, w, source, Operand::Disp8_SP, false)
-        }
-    }
+    let s = general::general(bs, answer::BEGIN, b % 16)?;
+    let t = numbers::disp_byte(bs, s)?;
+    let face = Face {
+        opcode: Opcode::MOV,
+        size: answer::size_of(byte),
+        width: answer::width_of(byte),
+        op0: general::general_name(byte, b),
+        op1: Operand::Disp8_SP,
+        marked: false,
+    };
+    Ok(face.with(t))
 }
 
 fn alone_opcode(h: u8) -> Opcode
     ensures { result ≡ alone_opcode h }
 {
-    if h == 9 {
-        return Opcode::DIVX;
+    match h {
+        9 => Opcode::DIVX,
+        12 => Opcode::DIVU,
+        _ => Opcode::ADCF,
     }
-    if h == 12 { Opcode::DIVU } else { Opcode::ADCF }
 }
 
 // 76/77 9n DIVX, Cn DIVU, En ADCF: G(n) alone.
-pub fn alone(bs: &[u8], byte: bool, b: u8) -> Answer
-    ensures { result ≡ run_row (alone (alone_opcode (b / 16)) (width_of byte) (b % 16)) bs.now }
+pub fn alone(bs: &[u8], byte: bool, b: u8) -> Decoded
+    ensures { answer_of result ≡ run_row (alone (alone_opcode (b / 16)) (width_of byte) (b % 16)) bs.now }
 {
-    let o = alone_opcode(b / 16);
-    let name = general::general_name(byte, b);
-    let got = general::general(bs, answer::BEGIN, b % 16);
-    let z = answer::size_of(byte);
-    let w = answer::width_of(byte);
-    answer::finish(bs, got, o, z, w, name, Operand::Nothing, false)
+    let s = general::general(bs, answer::BEGIN, b % 16)?;
+    let face = Face {
+        opcode: alone_opcode(b / 16),
+        size: answer::size_of(byte),
+        width: answer::width_of(byte),
+        op0: general::general_name(byte, b),
+        op1: Operand::Nothing,
+        marked: false,
+    };
+    Ok(face.with(s))
 }
 
 // 7A from 80 on, LDC: G is read, then the control register judged. The names are those at W.
-pub fn load_control(bs: &[u8], b: u8) -> Answer
-    ensures { result ≡ run_row (ldc (b / 16 % 8) (b % 16)) bs.now }
+pub fn load_control(bs: &[u8], b: u8) -> Decoded
+    ensures { answer_of result ≡ run_row (ldc (b / 16 % 8) (b % 16)) bs.now }
 {
-    let k = b / 16 % 8;
-    let source = general::general_name(false, b);
-    let dest = control::control_name(b / 16);
-    match general::general(bs, answer::BEGIN, b % 16) {
-        Got::Short => answer::refuse(refusal::EXHAUSTED_INPUT, bs.len()),
-        Got::On(s) => {
-            if k == 0 {
-                return answer::refuse(refusal::INVALID_OPERAND, s.taken);
-            }
-            answer::accept(Opcode::LDC, Size::None, Width::B, source, dest, false, s)
-        }
+    let s = general::general(bs, answer::BEGIN, b % 16)?;
+    if b / 16 % 8 == 0 {
+        return answer::refuse(Refusal::InvalidOperand, s.taken);
     }
+    let face = Face {
+        opcode: Opcode::LDC,
+        size: Size::None,
+        width: Width::B,
+        op0: general::general_name(false, b),
+        op1: control::control_name(b / 16),
+        marked: false,
+    };
+    Ok(face.with(s))
 }
 
 fn mul_opcode(h: u8) -> Opcode
@@ -80,24 +90,23 @@ fn mul_size(byte: bool, h: u8) -> Size
 }
 
 // 7C/7D 4n MULU, 5n MUL: G(n) is judged and read, then the immediate.
-pub fn mul_immediate(bs: &[u8], byte: bool, b: u8) -> Answer
-    ensures { result ≡ run_row (mul_at (width_of byte) (b / 16) (b % 16)) bs.now }
+pub fn mul_immediate(bs: &[u8], byte: bool, b: u8) -> Decoded
+    ensures { answer_of result ≡ run_row (mul_at (width_of byte) (b / 16) (b % 16)) bs.now }
 {
     if mul::bad_mul(byte, b % 16) {
-        return answer::refuse(refusal::INVALID_OPERAND, 2);
+        return answer::refuse(Refusal::InvalidOperand, 2);
     }
-    let dest = general::general_name(byte, b);
-    match general::general(bs, answer::BEGIN, b % 16) {
-        Got::Short => answer::refuse(refusal::EXHAUSTED_INPUT, bs.len()),
-        Got::On(s) => {
-            let got = numbers::immediate(bs, byte, s);
-            let o = mul_opcode(b / 16);
-            let z = mul_size(byte, b / 16);
-            let w = answer::width_of(byte);
-            let name = numbers::immediate_name(byte);
-            answer::finish(bs, got, o, z, w, name, dest, false)
-        }
-    }
+    let s = general::general(bs, answer::BEGIN, b % 16)?;
+    let t = numbers::immediate(bs, byte, s)?;
+    let face = Face {
+        opcode: mul_opcode(b / 16),
+        size: mul_size(byte, b / 16),
+        width: answer::width_of(byte),
+        op0: numbers::immediate_name(byte),
+        op1: general::general_name(byte, b),
+        marked: false,
+    };
+    Ok(face.with(t))
 }
 
 fn jump_opcode(h: u8) -> Opcode
@@ -117,11 +126,17 @@ fn word_name(b: u8) -> Operand
 }
 
 // 7D 2n JMPI.W, 3n JSRI.W.
-pub(crate) fn word_jump(bs: &[u8], b: u8) -> Answer
-    ensures { result ≡ run_row (word_jump (jump_opcode (b / 16)) (b % 16)) bs.now }
+pub(crate) fn word_jump(bs: &[u8], b: u8) -> Decoded
+    ensures { answer_of result ≡ run_row (word_jump (jump_opcode (b / 16)) (b % 16)) bs.now }
 {
-    let o = jump_opcode(b / 16);
-    let name = word_name(b);
-    let got = long::long(&bs[0..], answer::BEGIN, b % 16);
-    answer::finish(bs, got, o, Size::W, Width::W, name, Operand::Nothing, false)
+    let s = long::long(&bs[0..], answer::BEGIN, b % 16)?;
+    let face = Face {
+        opcode: jump_opcode(b / 16),
+        size: Size::W,
+        width: Width::W,
+        op0: word_name(b),
+        op1: Operand::Nothing,
+        marked: false,
+    };
+    Ok(face.with(s))
 }

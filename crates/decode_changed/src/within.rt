@@ -1,30 +1,34 @@
 // The rows that read nothing: their number, if they have one, is part of the code.
+#![tactic(auto, unfolding(rows::specs::Run::run_row, rows::specs::Run::run, rows::specs::Rows::row))]
 ghost use Rattle.std.specs.Prelude.{◌≡◌, List, ℕ, ◌/◌, ◌%◌, ◌<◌};
+ghost use Rattle.record.specs.Answer.{answer_of};
 ghost use Rattle.rows.specs.Rows.{flagged};
 ghost use Rattle.rows.specs.Run.{run_row};
 ghost use Rattle.by_manual.specs.Changed.{add_SP, flag, ldipl};
 ghost use Rattle.decode_changed.specs.steps.Rows.{signed4, condition_opcode, flag_opcode};
 
 use readers::answer;
-use record::{Answer, Opcode, Operand, Size, Width, refusal};
+use readers::answer::{Decoded, Face};
+use record::refusal::Refusal;
+use record::{Opcode, Operand, Size, Width};
 
 // 7D An, LDIPL: 0 to 7.
-pub(crate) fn load_level(b: u8) -> Answer
-    ensures { (bs : List ℕ) → result ≡ run_row (ldipl (b % 16)) bs }
+pub(crate) fn load_level(b: u8) -> Decoded
+    ensures { (bs : List ℕ) → answer_of result ≡ run_row (ldipl (b % 16)) bs }
 {
     let n = b % 16;
     if 8 <= n {
-        return answer::refuse(refusal::INVALID_OPERAND, 2);
+        return answer::refuse(Refusal::InvalidOperand, 2);
     }
-    answer::accept(
-        Opcode::LDIPL,
-        Size::None,
-        Width::W,
-        Operand::Imm8,
-        Operand::Nothing,
-        false,
-        answer::begin(n as u32),
-    )
+    let face = Face {
+        opcode: Opcode::LDIPL,
+        size: Size::None,
+        width: Width::W,
+        op0: Operand::Imm8,
+        op1: Operand::Nothing,
+        marked: false,
+    };
+    Ok(face.with(answer::begin(u32::from(n))))
 }
 
 // Four bits, with their sign.
@@ -33,48 +37,49 @@ fn sign_extend(n: u8) -> u32
     ensures { result ≡ signed4 n }
 {
     if n < 8 {
-        return n as u32;
+        return u32::from(n);
     }
-    0xFFFF_FFF0 + (n as u32)
+    0xFFFF_FFF0 + u32::from(n)
 }
 
 // 7D Bn, ADD Imm8,SP: -8 to 7.
-pub(crate) fn add_stack(b: u8) -> Answer
-    ensures { (bs : List ℕ) → result ≡ run_row (add_SP (b % 16)) bs }
+pub(crate) fn add_stack(b: u8) -> Decoded
+    ensures { (bs : List ℕ) → answer_of result ≡ run_row (add_SP (b % 16)) bs }
 {
-    answer::accept(
-        Opcode::ADD,
-        Size::W,
-        Width::W,
-        Operand::Imm8,
-        Operand::SP,
-        false,
-        answer::begin(sign_extend(b % 16)),
-    )
+    let face = Face {
+        opcode: Opcode::ADD,
+        size: Size::W,
+        width: Width::W,
+        op0: Operand::Imm8,
+        op1: Operand::SP,
+        marked: false,
+    };
+    Ok(face.with(answer::begin(sign_extend(b % 16))))
 }
 
 fn condition_opcode(n: u8) -> Opcode
     ensures { result ≡ condition_opcode n }
 {
-    if n == 10 {
-        return Opcode::BMGE;
+    match n {
+        10 => Opcode::BMGE,
+        13 => Opcode::BMNO,
+        _ => Opcode::BMLT,
     }
-    if n == 13 { Opcode::BMNO } else { Opcode::BMLT }
 }
 
 // 7D DA, DD, DE: conditions of the carry flag.
-pub(crate) fn condition(b: u8) -> Answer
-    ensures { (bs : List ℕ) → result ≡ run_row (flagged (condition_opcode (b % 16))) bs }
+pub(crate) fn condition(b: u8) -> Decoded
+    ensures { (bs : List ℕ) → answer_of result ≡ run_row (flagged (condition_opcode (b % 16))) bs }
 {
-    answer::accept(
-        condition_opcode(b % 16),
-        Size::None,
-        Width::W,
-        Operand::Nothing,
-        Operand::Nothing,
-        false,
-        answer::BEGIN,
-    )
+    let face = Face {
+        opcode: condition_opcode(b % 16),
+        size: Size::None,
+        width: Width::W,
+        op0: Operand::Nothing,
+        op1: Operand::Nothing,
+        marked: false,
+    };
+    Ok(face.with(answer::BEGIN))
 }
 
 fn flag_opcode(n: u8) -> Opcode
@@ -84,16 +89,16 @@ fn flag_opcode(n: u8) -> Opcode
 }
 
 // EB h4 FSET, h5 FCLR: the flag is h.
-pub fn flag(b: u8) -> Answer
-    ensures { (bs : List ℕ) → result ≡ run_row (flag (flag_opcode (b % 16)) (b / 16)) bs }
+pub fn flag(b: u8) -> Decoded
+    ensures { (bs : List ℕ) → answer_of result ≡ run_row (flag (flag_opcode (b % 16)) (b / 16)) bs }
 {
-    answer::accept(
-        flag_opcode(b % 16),
-        Size::None,
-        Width::None,
-        Operand::Imm4,
-        Operand::Nothing,
-        false,
-        answer::begin((b / 16) as u32),
-    )
+    let face = Face {
+        opcode: flag_opcode(b % 16),
+        size: Size::None,
+        width: Width::None,
+        op0: Operand::Imm4,
+        op1: Operand::Nothing,
+        marked: false,
+    };
+    Ok(face.with(answer::begin(u32::from(b / 16))))
 }

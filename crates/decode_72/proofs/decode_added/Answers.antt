@@ -5,10 +5,11 @@ use mathlib.Core.Path.{◌≡◌, sym, ap, ◌∙◌}
 use mathlib.Core.Bool.{false}
 use native.Mathlib.Omega.{arith}
 use borrow.Author.Tests.{ne_eqb}
+use Rattle.record.specs.Answer.{answer_of}
 use Rattle.rows.specs.Run.{run_row}
 use Rattle.decode_72.specs.steps.Added.{is_list, is_added}
 use Rattle.decode_72.proofs.Rows.{two_rows, list_rows}
-use Rattle.decode_72.proofs.decode_added.Goals.{then-a-gt193+else-is_list, else-a-gt193}
+use Rattle.decode_72.proofs.decode_added.Goals.{else-a-gt193-via-then-a-gt193+else-is_list, else-a-gt193-via-else-a-gt193}
 use Rattle.decode_72.proofs.decode_added.Goals as goal
 
 pub returns-then-is_two : goal.returns-then-is_two
@@ -32,6 +33,8 @@ early a l = ne_eqb (a / 2) 0x76 (λ e. omega arith)
 pub returns : goal.returns
 unfolding is_added
 returns c =
-    let a = c.args.a in
-    let none : is_list a ≡ false = elim c.if-a-gt193.branch [ then-a-gt193+else-is_list w ↦ sym w.is_list.ensures ∙ w.if-is_list.false | else-a-gt193 w ↦ early a w.if-a-gt193.false ] in
-    rw (sym c.is_two.ensures ∙ c.if-is_two.false, none) c.refuse.ensures
+    let none : is_list c.args.a ≡ false = elim c.else-a-gt193.branch [
+      | else-a-gt193-via-then-a-gt193+else-is_list w ↦ sym w.is_list.ensures ∙ w.if-is_list.false
+      | else-a-gt193-via-else-a-gt193 w ↦ early c.args.a w.if-a-gt193.false
+    ] in
+    rw (sym c.is_two.ensures ∙ c.if-is_two.false, none) (ap answer_of c.refuse.ensures)

@@ -3,11 +3,15 @@
 use mathlib.Core.Path.{refl}
 use Rattle.rows.specs.Rows.{row}
 use Rattle.rows.specs.Run.{run_row}
+use Rattle.rows.proofs.Steps.{ends, goes, done}
 use Rattle.readers.proofs.Told.{first}
-use Rattle.readers.proofs.Finish.{ended}
 use Rattle.decode_changed.proofs.general.alone.Goals as goal
+
+pub returns-in_err-s : goal.returns-in_err-s
+unfolding run_row row
+returns-in_err-s c = ends _ _ _ _ (first _ _ c.general.ensures) _ _ c.in_err-s.was c.from_residual.ensures.1
 
 pub returns : goal.returns
 unfolding run_row row
-returns c = ended _ _ refl _ (first _ _ c.general-got.ensures) c.finish.ensures c.alone_opcode-o.ensures c.size_of-z.ensures
-    c.width_of-w.ensures c.general_name-name.ensures refl refl
+returns c = goes _ _ _ _ (first _ _ c.general.ensures) _ c.in_ok-s.was
+    (done _ refl _ c.with.ensures c.alone_opcode.ensures c.size_of.ensures c.width_of.ensures c.general_name.ensures refl refl)

@@ -1,7 +1,8 @@
 -- `decode_changed::general::load_control` meets its contract.
 -- Assumes nothing.
-use mathlib.Core.Path.{refl}
+use mathlib.Core.Path.{refl, ap}
 use borrow.Author.Tests.{eq-eqb, ne_eqb}
+use Rattle.record.specs.Answer.{answer_of}
 use Rattle.rows.specs.Row.{InvalidOperand}
 use Rattle.rows.specs.Rows.{row}
 use Rattle.rows.specs.Run.{run_row}
@@ -9,16 +10,16 @@ use Rattle.rows.proofs.Steps.{ends, goes, stops, done}
 use Rattle.readers.proofs.Told.{first}
 use Rattle.decode_changed.proofs.general.load_control.Goals as goal
 
-pub returns-then-k-eq0 : goal.returns-then-k-eq0
+pub returns-in_err-s : goal.returns-in_err-s
 unfolding run_row row
-returns-then-k-eq0 c = goes _ _ _ _ (first _ _ c.general.ensures) _ c.in-On.is
-    (rw (eq-eqb _ 0 c.if-k-eq0.true) (stops InvalidOperand _ _ _ _ c.refuse-then-k-eq0.ensures))
+returns-in_err-s c = ends _ _ _ _ (first _ _ c.general.ensures) _ _ c.in_err-s.was c.from_residual.ensures.1
 
-pub returns-in-Short : goal.returns-in-Short
+pub returns-then-b-eq0 : goal.returns-then-b-eq0
 unfolding run_row row
-returns-in-Short c = ends _ _ _ _ (first _ _ c.general.ensures) _ c.in-Short.is c.refuse.ensures
+returns-then-b-eq0 c = goes _ _ _ _ (first _ _ c.general.ensures) _ c.in_ok-s.was
+    (rw (eq-eqb _ 0 c.if-b-eq0.true) (stops InvalidOperand _ _ _ _ (ap answer_of c.refuse.ensures)))
 
-pub returns-else-k-eq0 : goal.returns-else-k-eq0
+pub returns : goal.returns
 unfolding run_row row
-returns-else-k-eq0 c = goes _ _ _ _ (first _ _ c.general.ensures) _ c.in-On.is
-    (rw (ne_eqb _ 0 c.if-k-eq0.false) (done _ refl _ c.accept.ensures refl refl refl c.general_name-source.ensures c.control_name-dest.ensures refl))
+returns c = goes _ _ _ _ (first _ _ c.general.ensures) _ c.in_ok-s.was
+    (rw (ne_eqb _ 0 c.if-b-eq0.false) (done _ refl _ c.with.ensures refl refl refl c.general_name.ensures c.control_name.ensures refl))

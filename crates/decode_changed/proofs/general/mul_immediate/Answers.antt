@@ -1,30 +1,37 @@
 -- `decode_changed::general::mul_immediate` meets its contract.
 -- Assumes nothing.
 use Prim.Native.Nat.{◌%◌}
-use mathlib.Core.Path.{refl, sym, ◌∙◌}
+use mathlib.Core.Path.{refl, sym, ap, ◌∙◌}
+use Rattle.record.specs.Answer.{answer_of}
 use Rattle.rows.specs.Row.{InvalidOperand}
 use Rattle.rows.specs.Rows.{row}
 use Rattle.rows.specs.Run.{run_row}
-use Rattle.rows.proofs.Steps.{ends, goes, stops}
+use Rattle.rows.proofs.Steps.{ends, goes, stops, done}
 use Rattle.readers.proofs.Told.{near, first, behind_general}
-use Rattle.readers.proofs.Finish.{ended}
 use Rattle.decode_changed.proofs.general.mul_immediate.Goals as goal
 
 pub returns-then-bad_mul : goal.returns-then-bad_mul
 unfolding run_row row
-returns-then-bad_mul c = rw (sym c.bad_mul.ensures ∙ c.if-bad_mul.true) (stops InvalidOperand _ _ _ _ c.refuse.ensures)
+returns-then-bad_mul c = rw (sym c.bad_mul.ensures ∙ c.if-bad_mul.true) (stops InvalidOperand _ _ _ _ (ap answer_of c.refuse.ensures))
 
-pub returns-in-Short : goal.returns-in-Short
+pub returns-in_err-s : goal.returns-in_err-s
 unfolding run_row row
-returns-in-Short c = rw (sym c.bad_mul.ensures ∙ c.if-bad_mul.false)
-    (ends _ _ _ _ (first _ _ c.general.ensures) _ c.in-Short.is c.refuse-in-Short.ensures)
+returns-in_err-s c = rw (sym c.bad_mul.ensures ∙ c.if-bad_mul.false)
+    (ends _ _ _ _ (first _ _ c.general.ensures) _ _ c.in_err-s.was c.from_residual.ensures.1)
 
-pub returns-in-On : goal.returns-in-On
+pub returns-in_err-t : goal.returns-in_err-t
 unfolding run_row row
-returns-in-On c =
-    let dest = c.in-On.is in
+returns-in_err-t c =
+    let dest = c.in_ok-s.was in
     rw (sym c.bad_mul.ensures ∙ c.if-bad_mul.false)
     (goes _ _ _ _ (first _ _ c.general.ensures) _ dest
-    (ended _ _ refl _ (near _ _ _ (behind_general (c.args.b % 16) c.args.bs.now c.general.ensures dest) c.immediate-got.ensures) c.finish.ensures
-    c.mul_opcode-o.ensures c.mul_size-z.ensures c.width_of-w.ensures
-    c.immediate_name-name.ensures c.general_name-dest.ensures refl))
+    (ends _ _ _ _ (near _ _ _ (behind_general (c.args.b % 16) c.args.bs.now c.general.ensures dest) c.immediate.ensures) _ _ c.in_err-t.was c.from_residual-in_err-t.ensures.1))
+
+pub returns : goal.returns
+unfolding run_row row
+returns c =
+    let dest = c.in_ok-s.was in
+    rw (sym c.bad_mul.ensures ∙ c.if-bad_mul.false)
+    (goes _ _ _ _ (first _ _ c.general.ensures) _ dest
+    (goes _ _ _ _ (near _ _ _ (behind_general (c.args.b % 16) c.args.bs.now c.general.ensures dest) c.immediate.ensures) _ c.in_ok-t.was
+    (done _ refl _ c.with.ensures c.mul_opcode.ensures c.mul_size.ensures c.width_of.ensures c.immediate_name.ensures c.general_name.ensures refl)))
