@@ -25,24 +25,11 @@ use Rattle.encode_choice.specs.steps.Forms.{number_limit}
 use Rattle.encode_choice.specs.steps.Choose.{asked, drops_zero}
 use Rattle.encode_rules.proofs.Bools.{both_true}
 use Rattle.encode_choice.proofs.Formed.{Formed}
-use Rattle.encode.specs.declared.Plan.{Plan}
 use Rattle.encode.specs.steps.Faced.{face_by, conditions}
-use Rattle.encode.specs.steps.Plan.{planned, found_by}
 use Rattle.encode.specs.steps.Slots as slots
 use Rattle.encode.specs.steps.Slots.{limit_of}
 use Rattle.encode.proofs.Narrowed.{base_kept, whole_kept, whole_base}
 use Rattle.encode.proofs.Ordered.{row_named, sayable, ordered, said_if_small, part_small}
-
--- a plan of 0 0 is none, and one of a known first byte its bytes
-pub not_planned : (p : Plan) → planned p ≡ 0 ∷ 0 ∷ [] → found_by p ≡ none
-not_planned p s = let first : eqb p.first 0 ≡ true = ap (λ xs. eqb (get_or xs 0 0) 0) s in rw first refl
-
-pub is_planned : (t : Table) → t.known 0 ≡ false → (p : Plan) (a : ℕ) (xs : List ℕ) → t.known a ≡ true → planned p ≡ a ∷ xs → found_by p ≡ bytes (a ∷ xs)
-is_planned t zero p a xs e s = let first : eqb p.first 0 ≡ false = ap (λ xs. eqb (get_or xs 0 0) 0) s ∙ by (eqb a 0) refl in rw first (ap bytes s)
-  where
-    by : (z : Bool) → eqb a 0 ≡ z → z ≡ false
-    by false q = refl
-    by true q = sym e ∙ ap t.known (eqb-true a 0 q) ∙ zero
 
 -- what is asked of a record's key, and whether each number is 0 and may be dropped, or fits in a byte
 module _ (r : Record) where
@@ -88,7 +75,7 @@ module _ (r : Record) where
     no_number2 = ap (λ o. value_of (field_of o) r) no_third
 
     -- of a table whose rows are named by what they read
-    module _ (t : Table) (zero : t.known 0 ≡ false) (all_named : (a b : ℕ) → t.known a ≡ true → b < 256 → T (row_named (t.row_at a b) (conditions a b)))
+    module _ (t : Table) (all_named : (a b : ℕ) → t.known a ≡ true → b < 256 → T (row_named (t.row_at a b) (conditions a b)))
         (a b : ℕ) (the_row : Formed t a b r.opcode (asked (key r))) where
       abbrev w : Row
       w = t.row_at a b
@@ -148,11 +135,7 @@ module _ (r : Record) where
       unfolding bytes_by
       in_slots = ap (λ xs. a ∷ b ∷ xs) (ordered w (conditions a b) named the_row.lives k ∙ same_slots)
 
-      -- so a plan of these bytes where the numbers fit, and of 0 0 where they do not, is what is found
-      pub said_by : (p : Plan) → planned p ≡ pick (slots.fitting (face_by q) k) (a ∷ b ∷ slots.slots (face_by q) (conditions a b) k) (0 ∷ 0 ∷ []) → found_by p ≡ taken t (code a b) k
+      -- so these bytes where the numbers fit, and none where they do not, are what is found
+      pub said_by : pick (slots.fitting (face_by q) k) (bytes (a ∷ b ∷ slots.slots (face_by q) (conditions a b) k)) none ≡ taken t (code a b) k
       unfolding taken
-      said_by p = by (slots.fitting (face_by q) k) able_is
-        where
-          by : (fit : Bool) → able t a b k ≡ fit → planned p ≡ pick fit (a ∷ b ∷ slots.slots (face_by q) (conditions a b) k) (0 ∷ 0 ∷ []) → found_by p ≡ taken t (code a b) k
-          by true u s = is_planned t zero p a _ e s ∙ ap bytes (sym in_slots) ∙ ap (λ z. pick z (bytes (bytes_by t a b k)) none) (sym u)
-          by false u s = not_planned p s ∙ ap (λ z. pick z (bytes (bytes_by t a b k)) none) (sym u)
+      said_by = sym (ap₂ (λ fit xs. pick fit (bytes xs) none) able_is in_slots)

@@ -7,3 +7,5 @@ pub mod Ordered
 pub mod Wholly
 pub mod Readings
 pub mod Taken
+pub mod Sized
+pub mod Leaves

@@ -13,43 +13,40 @@ use Rattle.encode_rules.specs.steps.Digits.{digits}
 use Rattle.encode_rules.specs.Says.{bytes}
 use Rattle.encode_rules.specs.Written.{outcome, written}
 use Rattle.encode_rules.proofs.Runs.{digits_length}
-use Rattle.encode.specs.declared.Plan.{Plan}
+use Rattle.encode.specs.declared.plan.Plan.{Plan}
 use Rattle.encode.specs.steps.Plan.{planned}
 
-pub planned_length : (p : Plan) → length (planned p) ≡ 2 + p.count + p.rest_count
+pub planned_length : (p : Plan) → 2 + p.number.count + p.rest.count ≡ length (planned p)
 planned_length p =
-    let xs = digits p.count p.number in
-    let ys = digits p.rest_count p.rest in
-    omega (arith, length-append xs ys, digits_length p.count p.number, digits_length p.rest_count p.rest)
+    let xs = digits p.number.count p.number.value in
+    let ys = digits p.rest.count p.rest.value in
+    omega (arith, length-append xs ys, digits_length p.number.count p.number.value, digits_length p.rest.count p.rest.value)
 
 -- a code's two bytes, then a number, then another
-module _ (l : List ℕ) (p : Plan) (h : 2 + p.count + p.rest_count ≤ length l) {x : List ℕ}
-    (number : x ≡ put 2 (digits p.count p.number) (set (set l 0 p.first) 1 p.second)) where
+module _ (l : List ℕ) (p : Plan) (h : 2 + p.number.count + p.rest.count ≤ length l) {x : List ℕ}
+    (number : x ≡ put 2 (digits p.number.count p.number.value) (set (set l 0 p.first) 1 p.second)) where
   abbrev coded : List ℕ
   coded = set (set l 0 p.first) 1 p.second
 
   long : length coded ≡ length l
   long = simp length-set
 
-  pub room : 2 + p.count + p.rest_count ≤ length x
+  pub room : 2 + p.number.count + p.rest.count ≤ length x
   room =
-      let e = digits_length p.count p.number in
-      omega (arith, long, ap length number, put_length 2 coded (digits p.count p.number) (omega (arith, long)))
+      let e = digits_length p.number.count p.number.value in
+      omega (arith, long, ap length number, put_length 2 coded (digits p.number.count p.number.value) (omega (arith, long)))
 
-  pub laid : {y : List ℕ} → y ≡ put (2 + p.count) (digits p.rest_count p.rest) x → y ≡ over (planned p) l
+  pub laid : {y : List ℕ} → y ≡ put (2 + p.number.count) (digits p.rest.count p.rest.value) x → y ≡ over (planned p) l
   laid rest =
-      let xs = digits p.count p.number in
-      let ys = digits p.rest_count p.rest in
-      let e = digits_length p.count p.number in
-      let place : 2 + p.count ≡ 2 + length xs = omega arith in
-      rest ∙ ap (put (2 + p.count) ys) number
+      let xs = digits p.number.count p.number.value in
+      let ys = digits p.rest.count p.rest.value in
+      let e = digits_length p.number.count p.number.value in
+      let place : 2 + p.number.count ≡ 2 + length xs = omega arith in
+      rest ∙ ap (put (2 + p.number.count) ys) number
       ∙ sym
       (put_one 0 l p.first (p.second ∷ xs ++ ys) (omega arith)
       ∙ put_one 1 (set l 0 p.first) p.second (xs ++ ys) (simp length-set (omega arith))
       ∙ put_more 2 coded xs (omega (arith, long)) ys place)
-
-  pub laid_length : {y : List ℕ} → y ≡ put (2 + p.count) (digits p.rest_count p.rest) x → length y ≡ length l
-  laid_length rest = ap length (laid rest) ∙ put_length 0 l (planned p) (omega (arith, planned_length p))
 
 module _ (bs : List ℕ) (k : ℕ) (xs : List ℕ) where
   pub none : length bs < k + length xs → outcome 6 0 bs ≡ written (bytes xs) bs k

@@ -13,7 +13,7 @@ use Rattle.record.specs.Same.{same_name, key}
 use Rattle.rows.specs.Row.{Table}
 use Rattle.rows.specs.Groups.{known, document01}
 use Rattle.by_manual.specs.Table.{by_manual, table_by}
-use Rattle.encode_rules.specs.Says.{Found}
+use Rattle.encode_rules.specs.Says.{Found, bytes, none}
 use Rattle.encode_rules.specs.steps.Search.{live}
 use Rattle.encode_rules.specs.steps.Direct.{Choice, code, nothing, taken}
 use Rattle.encode_rules.proofs.Bools.{both_true}
@@ -28,22 +28,11 @@ use Rattle.encode_added.proofs.Parts.{taken_in}
 use Rattle.encode_added.proofs.Added.{added, added_within}
 use Rattle.encode_added.proofs.Right.{stays_within}
 use Rattle.encode_added.proofs.Formed.{formed_added}
-use Rattle.encode.specs.declared.Plan.{Plan}
 use Rattle.encode.specs.steps.Faced.{face_by, conditions}
-use Rattle.encode.specs.steps.Plan.{planned, found_by}
 use Rattle.encode.specs.steps.Slots as slots
 use Rattle.encode.proofs.Ordered.{row_named, document_named, added_named}
-use Rattle.encode.proofs.Found.{in_code_lem, second_below, is_planned, said_by}
+use Rattle.encode.proofs.Found.{in_code_lem, second_below, said_by}
 use Rattle.encode.proofs.Wholly.{wholly_there, wholly_taken}
-
--- 0 is no first byte
-no_zero : known 0 ≡ false
-unfolding known
-no_zero = refl
-
-pub known_zero : (d : Bool) → (table_by d).known 0 ≡ false
-known_zero false = no_zero
-known_zero true = no_zero
 
 -- a code is chosen only for names that go together
 both_chosen : (g : Bool) (x : Choice) (a b : ℕ) → pick g x nothing ≡ code a b → (g ≡ true) × (x ≡ code a b)
@@ -54,24 +43,23 @@ module _ (r : Record) (third : same_name r.op2 Nothing ≡ true) (a b : ℕ) whe
   abbrev q : Asked
   q = asked (key r)
 
-  -- what is found by a plan of the code and the numbers behind it, if each fits
+  -- what is found is the code and the numbers behind it, if each fits
   abbrev pub Follows : Found → Type 0
-  Follows found =
-      (p : Plan) → planned p ≡ pick (slots.fitting (face_by q) (key r)) (a ∷ b ∷ slots.slots (face_by q) (conditions a b) (key r)) (0 ∷ 0 ∷ []) → found_by p ≡ found
+  Follows found = pick (slots.fitting (face_by q) (key r)) (bytes (a ∷ b ∷ slots.slots (face_by q) (conditions a b) (key r))) none ≡ found
 
-  -- and by one of the code alone
+  -- or the code alone
   abbrev pub Alone : Found → Type 0
-  Alone found = (p : Plan) → planned p ≡ a ∷ b ∷ [] → found_by p ≡ found
+  Alone found = bytes (a ∷ b ∷ []) ≡ found
 
   -- by a table of which every live row stands in the reading's
-  follows_in : (s t : Table) → s.known ≡ t.known → s.known 0 ≡ false
+  follows_in : (s t : Table) → s.known ≡ t.known
       → ((a b : ℕ) → s.known a ≡ true → b < 256 → T (row_named (s.row_at a b) (conditions a b)))
       → ((a b : ℕ) → s.known a ≡ true → b < 256 → live (s.row_at a b) ≡ true → s.row_at a b ≡ t.row_at a b)
       → Formed s a b r.opcode q → (b < 256) × Follows (taken t (code a b) (key r))
-  follows_in s t same zero named within w =
-      let below = second_below r third s zero named a b w in
+  follows_in s t same named within w =
+      let below = second_below r third s named a b w in
       let x = both_true (ltb b 256) (s.known a) (both_true (ltb a 256) _ w.there).1 in
-      (below, λ p e. said_by r third s zero named a b w p e ∙ taken_in s t same a b (key r) (within a b x.1 below w.lives))
+      (below, said_by r third s named a b w ∙ taken_in s t same a b (key r) (within a b x.1 below w.lives))
 
   document_row : choose_named r.opcode q ≡ code a b → Formed document01 a b r.opcode q
   unfolding choose_named
@@ -84,13 +72,12 @@ module _ (r : Record) (third : same_name r.op2 Nothing ≡ true) (a b : ℕ) whe
   by_names g = pick g (code_by (entry_of r.opcode).codes q (key r).number0) (choose_named r.opcode q)
 
   manual_follows : (g : Bool) → goes r.opcode q ≡ g → by_names g ≡ code a b → both g (is_numbered (entry_of r.opcode).codes) ≡ false → (b < 256) × Follows (taken by_manual (code a b) (key r))
-  manual_follows true f e n = follows_in added by_manual refl no_zero added_named added_within (formed_added r.opcode q (key r).number0 a b f n (in_code_lem r) e)
-  manual_follows false f e n = follows_in document01 by_manual refl no_zero document_named stays_within (document_row e)
+  manual_follows true f e n = follows_in added by_manual refl added_named added_within (formed_added r.opcode q (key r).number0 a b f n (in_code_lem r) e)
+  manual_follows false f e n = follows_in document01 by_manual refl document_named stays_within (document_row e)
 
   manual_alone : (g : Bool) → goes r.opcode q ≡ g → by_names g ≡ code a b → both g (is_numbered (entry_of r.opcode).codes) ≡ true → (b < 256) × Alone (taken by_manual (code a b) (key r))
   manual_alone true f e n =
-      let x = wholly_there r third f n a b e in
-      (x.0, λ p s. is_planned by_manual no_zero p a (b ∷ []) x.1 s ∙ wholly_taken r third f n a b e)
+      (wholly_there r third f n a b e, wholly_taken r third f n a b e)
   manual_alone false f e n = absurd (false≢true n)
 
   -- what the reading's encoder finds
@@ -99,13 +86,13 @@ module _ (r : Record) (third : same_name r.op2 Nothing ≡ true) (a b : ℕ) whe
 
   pub follows : (d : Bool) → choice_of d (key r) ≡ code a b → is_whole d r.opcode q ≡ false → (b < 256) × Follows (encoded_by d r)
   unfolding choose_by is_whole
-  follows false e n = let x = follows_in document01 document01 refl no_zero document_named (λ a b k l v. refl) (document_row e) in (x.0, λ p s. x.1 p s ∙ found_by_lem false e)
-  follows true e n = let x = manual_follows (goes r.opcode q) refl e n in (x.0, λ p s. x.1 p s ∙ found_by_lem true e)
+  follows false e n = let x = follows_in document01 document01 refl document_named (λ a b k l v. refl) (document_row e) in (x.0, x.1 ∙ found_by_lem false e)
+  follows true e n = let x = manual_follows (goes r.opcode q) refl e n in (x.0, x.1 ∙ found_by_lem true e)
 
   pub alone : (d : Bool) → choice_of d (key r) ≡ code a b → is_whole d r.opcode q ≡ true → (b < 256) × Alone (encoded_by d r)
   unfolding choose_by is_whole
   alone false e n = absurd (false≢true n)
-  alone true e n = let x = manual_alone (goes r.opcode q) refl e n in (x.0, λ p s. x.1 p s ∙ found_by_lem true e)
+  alone true e n = let x = manual_alone (goes r.opcode q) refl e n in (x.0, x.1 ∙ found_by_lem true e)
 
   pub second : (d : Bool) → choice_of d (key r) ≡ code a b → b < 256
   second d e = by (is_whole d r.opcode q) refl

@@ -1,4 +1,4 @@
--- A choice as a code's two numbers; and what is found for none, and for a record with a third operand.
+-- What choice a code or none tells; and what is found for a record with a third operand.
 -- Assumes nothing.
 use mathlib.Core.Path.{◌≡◌, refl, sym, ap, ◌∙◌}
 use mathlib.Core.Logic.{◌≢◌}
@@ -20,11 +20,20 @@ use Rattle.encode_rules.specs.steps.Can.{can}
 use Rattle.encode_rules.specs.steps.Direct.{Choice, code, nothing, there, able, taken}
 use Rattle.encode_rules.proofs.Bools.{so, both_true, both_none, picked}
 use Rattle.encode_rules.proofs.Can.{parts}
+use Rattle.std.specs.Prelude.{Some, None}
 use Rattle.encode_choice.specs.steps.Coded.{coded}
+use Rattle.encode_added.specs.declared.Chosen.{Chosen}
+use Rattle.encode_added.specs.steps.Chosen.{chosen}
 
-pub uncoded : (x : Choice) → (coded x).first ≢ 0 → x ≡ code (coded x).first (coded x).second
-uncoded (code a b) h = refl
-uncoded nothing h = absurd (h refl)
+pub chosen_as : (x : Choice) {w : Bool} {c : Chosen} → chosen (coded x) w ≡ Some c → (x ≡ code c.code.first c.code.second) × (w ≡ c.whole)
+chosen_as (code a b) {w} {c} e =
+    let z : record { code = record { first = a; second = b }; whole = w } ≡ c = cc in
+    (ap (λ c. code c.code.first c.code.second) z, ap (λ c. c.whole) z)
+chosen_as nothing e = cc
+
+pub not_chosen : (x : Choice) (w : Bool) → chosen (coded x) w ≡ None → x ≡ nothing
+not_chosen (code a b) w e = cc
+not_chosen nothing w e = refl
 
 -- only Nothing has the base Nothing
 nothing_only : (o : Operand) → base_of Nothing ≡ base_of o → same_name o Nothing ≡ true
@@ -32,17 +41,9 @@ unfolding base_of same_name among
 nothing_only o e = so _ (picked _ _ (every_operand (λ o. pick (eqb (operand_no (base_of Nothing)) (operand_no (base_of o))) (same_name o Nothing) true) tt o) (eq-eqb _ _ (ap operand_no e)))
 
 module _ (t : Table) where
-  -- no code begins with a byte that is not known
-  pub not_chosen : t.known 0 ≡ false → (x : Choice) (k : Key) → (coded x).first ≡ 0 → none ≡ taken t x k
-  unfolding taken able
-  not_chosen zero nothing k h = refl
-  not_chosen zero (code a b) k h =
-      let out : able t a b k ≡ false =
-      ap (λ z. both (both (ltb a 256) (both (ltb b 256) z)) (can (t.row_at a b) k)) (ap t.known h ∙ zero)
-      ∙ ap (λ z. both (both (ltb a 256) z) (can (t.row_at a b) k)) (both_none (ltb b 256))
-      ∙ ap (λ z. both z (can (t.row_at a b) k)) (both_none (ltb a 256))
-      in
-      ap (λ z. pick z (bytes (bytes_by t a b k)) none) (sym out)
+  pub none_taken : {x : Choice} → x ≡ nothing → (k : Key) → none ≡ taken t x k
+  unfolding taken
+  none_taken e k = ap (λ x. taken t x k) (sym e)
 
   pub third : (r : Record) → same_name r.op2 Nothing ≡ false → (x : Choice) → none ≡ taken t x (key r)
   unfolding taken able

@@ -1,38 +1,38 @@
 // The condition that an opcode is, as 7E 2n reads it.
 ghost use Rattle.std.specs.Prelude.{◌≡◌};
+ghost use Rattle.laws.specs.Choice.{pick};
 ghost use Rattle.encode_rules.specs.steps.Search.{cond_byte};
+ghost use Rattle.encode.specs.steps.Faced as faced;
 
-use record::{Opcode, numbers};
+use record::Opcode;
 
-// The fourteen opcodes that are conditions stand next to each other, from BMEQ on.
-const FIRST: u32 = 8;
-
-const BYTES: [u8; 14] = [
-    2, // BMEQ
-    0, // BMGEU
-    0xFC, // BMGT
-    1, // BMGTU
-    4, // BMLE
-    0xF9, // BMLEU
-    0xF8, // BMLTU
-    0xFE, // BMLT
-    0xFD, // BMNO
-    6, // BMGE
-    3, // BMN
-    0xFA, // BMNE
-    5, // BMO
-    0xFB, // BMPZ
-];
-
+// 0 for an opcode that is none.
+#[tactic(auto, unfolding(encode_rules::specs::steps::Search::cond_byte, rows::specs::Codes::cond_of))]
 pub(crate) fn byte_of(o: Opcode) -> u8
     ensures { result ≡ cond_byte o }
 {
-    let n = numbers::opcode_number(o);
-    if FIRST <= n {
-        let place = n - FIRST;
-        if place < 14 {
-            return BYTES[place as usize];
-        }
+    match o {
+        Opcode::BMEQ => 2,
+        Opcode::BMGEU => 0,
+        Opcode::BMGT => 0xFC,
+        Opcode::BMGTU => 1,
+        Opcode::BMLE => 4,
+        Opcode::BMLEU => 0xF9,
+        Opcode::BMLTU => 0xF8,
+        Opcode::BMLT => 0xFE,
+        Opcode::BMNO => 0xFD,
+        Opcode::BMGE => 6,
+        Opcode::BMN => 3,
+        Opcode::BMNE => 0xFA,
+        Opcode::BMO => 5,
+        Opcode::BMPZ => 0xFB,
+        _ => 0,
     }
-    0
+}
+
+// Whether a code reads a condition: 7E 2n does, no other.
+pub(crate) fn is_read(a: u8, b: u8) -> bool
+    ensures { pick result 1 0 ≡ faced.conditions a b }
+{
+    a == 0x7E && b / 16 == 2
 }

@@ -1,13 +1,14 @@
 // How many bytes behind a code a name's number has, and what it must be below.
-ghost use Rattle.std.specs.Prelude.{◌≡◌, ◌/◌, ◌%◌, ◌^◌};
-ghost use Rattle.encode.specs.steps.Slots.{size_of};
+ghost use Rattle.std.specs.Prelude.{◌≡◌, ◌≤◌};
+ghost use Rattle.encode.specs.steps.Slots.{size_of, count_of, limit_of};
 
 use record::Operand;
 
 #[derive(Clone, Copy)]
-pub(crate) struct Slot {
+pub struct Slot {
     pub count: u8,
     pub limit: u32,
+    pub ghost short: { count ≤ 3 },
 }
 
 // Both in one byte, so that a table of bytes is enough: 32 for each byte behind the code, and how many bits the number may have. Imm4 and
@@ -23,7 +24,7 @@ const FOUR_BITS: u8 = 4;
 const EIGHT_BITS: u8 = 8;
 
 #[tactic(auto, unfolding(crate::specs::steps::Slots::count_of, crate::specs::steps::Slots::size_of, record::specs::Same::same_name, record::specs::Same::among))]
-pub(crate) fn size_of(o: Operand) -> u8
+fn size_of(o: Operand) -> u8
     ensures { result ≡ size_of o }
 {
     match o {
@@ -60,9 +61,11 @@ pub(crate) fn size_of(o: Operand) -> u8
     }
 }
 
-pub(crate) fn slot_by(size: u8) -> Slot
-    ensures { (result.count ≡ size / 32) × (result.limit ≡ 2 ^ (size % 32)) }
+#[tactic(auto, using(crate::proofs::Sized::sized_count, crate::proofs::Sized::sized_short, crate::proofs::Sized::sized_limit))]
+pub(crate) fn slot_of(o: Operand) -> Slot
+    ensures { (result.count ≡ count_of o) × (result.limit ≡ limit_of o) }
 {
+    let size = size_of(o);
     Slot {
         count: size / 32,
         limit: 1 << (size % 32),

@@ -19,20 +19,14 @@ pub(crate) fn base_of(o: Operand) -> Operand
 pub(crate) fn key_of(r: Record) -> Key
     ensures { result ≡ key r }
 {
-    let opcode = r.opcode;
-    let size = r.size;
-    let width = r.width;
-    let op0 = r.op0;
-    let op1 = r.op1;
-    let op2 = r.op2;
     let numbers = fields::numbers_of(r);
     Key {
-        opcode,
-        size,
-        width,
-        base0: base_of(op0),
-        base1: base_of(op1),
-        base2: base_of(op2),
+        opcode: r.opcode,
+        size: r.size,
+        width: r.width,
+        base0: base_of(r.op0),
+        base1: base_of(r.op1),
+        base2: base_of(r.op2),
         number0: numbers.number0,
         number1: numbers.number1,
         number2: numbers.number2,

@@ -1,3 +1,4 @@
 pub mod Entries
 pub mod Choose
 pub mod Sets
+pub mod Chosen

@@ -8,26 +8,20 @@ use encode_choice::{Asked, Code, name_sets, shapes, single};
 use record::Opcode;
 
 // LDC: the control register and G(n).
-fn load(q: Asked) -> Code
+fn load(q: Asked) -> Option<Code>
     ensures { result ≡ coded (entries.load q) }
 {
-    let op1 = q.op1;
-    let op0 = q.op0;
-    single::fixed(
-        0x7A,
-        16 * (8 + (name_sets::code_of(op1) as u64)) + (name_sets::code_of(op0) as u64),
-    )
+    single::fixed(0x7A, shapes::nibbles(8 + name_sets::code_of(q.op1), q.op0))
 }
 
 // A number below 8, by the code of 0 and the distance to the next.
-fn below8(a: u8, b: u64, step: u64, n: u32) -> Code
-    requires { (b ≤ 0xA0) × (step ≤ 16) }
+fn below8(a: u8, b: u8, step: u8, n: u32) -> Option<Code>
     ensures { result ≡ coded (choice.below a b step n) }
 {
     if n < 8 {
-        return single::fixed(a, b + step * (n as u64));
+        return single::fixed(a, u64::from(b) + u64::from(step) * u64::from(n));
     }
-    single::fixed(0, 0)
+    None
 }
 
 // A nibble sign-extended to 32 bits.
@@ -42,28 +36,25 @@ fn extended(n: u32) -> u32
 }
 
 // ADD to SP: a number from -8 to 7, as its low nibble.
-fn nibble(n: u32) -> Code
+fn nibble(n: u32) -> Option<Code>
     ensures { result ≡ coded (choice.signed n) }
 {
     let low = n % 16;
     if n == extended(low) {
-        return single::fixed(0x7D, 0xB0 + (low as u64));
+        return single::fixed(0x7D, 0xB0 + u64::from(low));
     }
-    single::fixed(0, 0)
+    None
 }
 
 #[tactic(auto, unfolding(crate::specs::steps::Entries::entry_of))]
 pub(crate) fn is_numbered(o: Opcode) -> bool
     ensures { result ≡ choice.is_numbered (entries.entry_of o).codes }
 {
-    match o {
-        Opcode::FSET | Opcode::FCLR | Opcode::LDIPL | Opcode::ADD => true,
-        _ => false,
-    }
+    matches!(o, Opcode::FSET | Opcode::FCLR | Opcode::LDIPL | Opcode::ADD)
 }
 
 #[tactic(auto, unfolding(crate::specs::steps::Entries::entry_of))]
-pub(crate) fn code_by(o: Opcode, q: Asked, n: u32) -> Code
+pub(crate) fn code_by(o: Opcode, q: Asked, n: u32) -> Option<Code>
     ensures { result ≡ coded (choice.code_by (entries.entry_of o).codes q n) }
 {
     match o {
@@ -83,6 +74,6 @@ pub(crate) fn code_by(o: Opcode, q: Asked, n: u32) -> Code
         Opcode::FCLR => below8(0xEB, 5, 16, n),
         Opcode::LDIPL => below8(0x7D, 0xA0, 1, n),
         Opcode::ADD => nibble(n),
-        _ => single::fixed(0, 0),
+        _ => None,
     }
 }

@@ -8,6 +8,7 @@ mod codes; // the codes of the changed rows
 ghost use Rattle.std.specs.Prelude.{◌≡◌};
 ghost use Rattle.encode_choice.specs.steps.Coded.{coded};
 ghost use Rattle.encode_added.specs.steps.Choose as choice;
+ghost use Rattle.encode_added.specs.steps.Chosen.{chosen};
 
 use encode_choice::{Asked, Code};
 use record::Opcode;
@@ -22,24 +23,21 @@ pub struct Chosen {
 fn changes(manual: bool, o: Opcode, q: Asked) -> bool
     ensures { result ≡ choice.changes manual o q }
 {
-    if manual {
-        return sets::goes(o, q);
-    }
-    false
+    manual && sets::goes(o, q)
 }
 
 // The code for what is asked; n is the number of operand 0.
 #[tactic(auto, unfolding(crate::specs::steps::Choose::choose_by, crate::specs::steps::Choose::is_whole))]
-pub fn choose(manual: bool, o: Opcode, q: Asked, n: u32) -> Chosen
-    ensures { (result.code ≡ coded (choice.choose_by manual o q n)) × (result.whole ≡ choice.is_whole manual o q) }
+pub fn choose(manual: bool, o: Opcode, q: Asked, n: u32) -> Option<Chosen>
+    ensures { result ≡ chosen (coded (choice.choose_by manual o q n)) (choice.is_whole manual o q) }
 {
     if changes(manual, o, q) {
-        let code = codes::code_by(o, q, n);
-        return Chosen {
+        let code = codes::code_by(o, q, n)?;
+        return Some(Chosen {
             code,
             whole: codes::is_numbered(o),
-        };
+        });
     }
-    let code = encode_choice::choose(o, q);
-    Chosen { code, whole: false }
+    let code = encode_choice::choose(o, q)?;
+    Some(Chosen { code, whole: false })
 }

@@ -1,4 +1,5 @@
 // The names that go with an opcode in a changed row: by width the sets of operand 0's names, with the size, and of operand 1's.
+// (A table for each width: one that is found by the width was measured to be slower.)
 #![tactic(auto, using(crate::proofs::InSets::told_sets), unfolding(crate::proofs::InSets::are_sets, record::specs::Same::among, record::specs::Same::same_name))]
 
 ghost use Rattle.std.specs.Prelude.{◌≡◌};
@@ -108,9 +109,8 @@ fn at_none(k: Kind) -> Sets
 pub(crate) fn goes(o: Opcode, q: Asked) -> bool
     ensures { result ≡ entries.goes o q }
 {
-    let width = q.width;
     let kind = kind_of(o);
-    match width {
+    match q.width {
         Width::B => forms::all_in(at_b(kind), q),
         Width::W => forms::all_in(at_w(kind), q),
         Width::None => forms::all_in(at_none(kind), q),

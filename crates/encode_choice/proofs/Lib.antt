@@ -10,8 +10,6 @@ pub mod Chosen
 pub mod Encoded
 pub mod NoBytes
 pub mod Bench
-pub mod Whole
 pub mod Lookups
 pub mod OrImm
 pub mod SetBits
-pub mod Unchosen

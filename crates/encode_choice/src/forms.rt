@@ -1,4 +1,6 @@
 // Which size and names go with an opcode: those that it has in an unmarked row.
+#![tactic(auto, unfolding(record::specs::Same::same_name))]
+
 ghost use Rattle.std.specs.Prelude.{◌≡◌, ltb};
 ghost use Rattle.laws.specs.Choice.{both};
 ghost use Rattle.encode_choice.specs.steps.Forms.{form_of, number_limit, goes_with};
@@ -6,53 +8,38 @@ ghost use Rattle.encode_choice.specs.steps.NameSet.{all_in};
 
 use crate::name_sets::Sets;
 use crate::{Asked, name_sets, sets};
-use record::{Opcode, Operand, Width, fields};
+use record::{Opcode, Operand, Width};
 
 pub fn all_in(s: Sets, q: Asked) -> bool
     ensures { result ≡ all_in s.0 s.1 q }
 {
-    let size = q.size;
-    let op0 = q.op0;
-    let op1 = q.op1;
-    if sets::has_size(s.0, size) {
-        if sets::has(s.0, op0) {
-            return sets::has(s.1, op1);
-        }
-    }
-    false
+    sets::has_size(s.0, q.size) && sets::has(s.0, q.op0) && sets::has(s.1, q.op1)
 }
 
 // A number that is part of the code, of Imm4, of RegList or of Imm8.
 fn number_goes(q: Asked) -> bool
     ensures { result ≡ ltb q.number (number_limit q.op0) }
 {
-    let op0 = q.op0;
-    if fields::same_name(op0, Operand::Imm4) {
-        return q.number < 16;
+    match q.op0 {
+        Operand::Imm4 => q.number < 16,
+        Operand::RegList => q.number < 256,
+        _ => q.number < 64,
     }
-    if fields::same_name(op0, Operand::RegList) {
-        return q.number < 256;
-    }
-    q.number < 64
 }
 
 // At no width.
 fn none_goes(s: Sets, q: Asked) -> bool
     ensures { result ≡ both (all_in s.0 s.1 q) (ltb q.number (number_limit q.op0)) }
 {
-    if all_in(s, q) {
-        return number_goes(q);
-    }
-    false
+    all_in(s, q) && number_goes(q)
 }
 
 // The sets are asked for where the width is known: a table for each is quicker than one that is found by the width.
 pub fn goes_with(o: Opcode, q: Asked) -> bool
     ensures { result ≡ goes_with (form_of o) q }
 {
-    let width = q.width;
     let form = name_sets::form_of(o);
-    match width {
+    match q.width {
         Width::B => all_in(name_sets::at_b(form), q),
         Width::W => all_in(name_sets::at_w(form), q),
         Width::None => none_goes(name_sets::at_none(form), q),

@@ -28,7 +28,7 @@ pub struct Asked {
     pub number: u32,
 }
 
-// The two bytes of a code; no code is 0, 0.
+// The two bytes of a code.
 #[derive(Clone, Copy)]
 pub struct Code {
     pub first: u8,
@@ -36,7 +36,7 @@ pub struct Code {
 }
 
 #[tactic(auto, unfolding(crate::specs::steps::Choose::choose_by))]
-fn choose_by(o: Opcode, q: Asked) -> Code
+fn choose_by(o: Opcode, q: Asked) -> Option<Code>
     ensures { result ≡ coded (choose_by o q) }
 {
     match o {
@@ -129,17 +129,17 @@ fn choose_by(o: Opcode, q: Asked) -> Code
         Opcode::WAIT => single::fixed(0x7D, 0xF3),
         Opcode::XCHG => shapes::twice(0x7A, q),
         Opcode::XOR => shapes::arithmetic(0x76, 1, 0x88, q),
-        _ => single::fixed(0, 0),
+        _ => None,
     }
 }
 
 // The code for what is asked, if these are names that the opcode has in an unmarked row.
 #[tactic(auto, unfolding(crate::specs::steps::Choose::choose_named))]
-pub fn choose(o: Opcode, q: Asked) -> Code
+pub fn choose(o: Opcode, q: Asked) -> Option<Code>
     ensures { result ≡ coded (choice.choose_named o q) }
 {
     if forms::goes_with(o, q) {
         return choose_by(o, q);
     }
-    single::fixed(0, 0)
+    None
 }

@@ -225,42 +225,7 @@ pub(crate) fn form_of(o: Opcode) -> Form
 fn number_of(f: Form) -> u8
     ensures { (form_at result ≡ f) × (result < length forms) }
 {
-    match f {
-        Form::Bit => 0,
-        Form::FlagOrBit => 1,
-        Form::Shift => 2,
-        Form::Interrupt => 3,
-        Form::LoadControl => 4,
-        Form::Address => 5,
-        Form::Control => 6,
-        Form::RegisterList => 7,
-        Form::General => 8,
-        Form::SizedGeneral => 9,
-        Form::GeneralOrImmediate => 10,
-        Form::ImmediateAlone => 11,
-        Form::Arithmetic => 12,
-        Form::Sum => 13,
-        Form::Move => 14,
-        Form::Rotate => 15,
-        Form::Decimal => 16,
-        Form::Block => 17,
-        Form::Enter => 18,
-        Form::Plain => 19,
-        Form::Extend => 20,
-        Form::Jump => 21,
-        Form::Indirect => 22,
-        Form::LoadContext => 23,
-        Form::StoreContext => 24,
-        Form::LoadFar => 25,
-        Form::StoreFar => 26,
-        Form::PushAddress => 27,
-        Form::Half => 28,
-        Form::HalfRegister => 29,
-        Form::Multiply => 30,
-        Form::Exchange => 31,
-        Form::StoreControl => 32,
-        Form::Unused => 33,
-    }
+    f as u8
 }
 
 #[tactic(auto, unfolding(crate::specs::steps::NameSet::bit_set))]

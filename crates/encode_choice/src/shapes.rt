@@ -1,10 +1,13 @@
 // Codes that several opcodes have in common, by the high nibble h or the like; n is the code of an operand.
-ghost use Rattle.std.specs.Prelude.{◌≡◌, ◌≤◌, ◌*◌, ◌/◌, ◌%◌};
+#![tactic(auto, unfolding(record::specs::Same::same_name), using(record::proofs::Equal::equal))]
+
+ghost use Rattle.std.specs.Prelude.{◌≡◌, ◌≤◌, ◌+◌, ◌*◌, ◌/◌, ◌%◌};
 ghost use Rattle.encode_choice.specs.steps.Choose as choice;
+ghost use Rattle.encode_choice.specs.steps.Choose.{code_of};
 ghost use Rattle.encode_choice.specs.steps.Coded.{coded};
 
 use crate::{Asked, Code, name_sets, names};
-use record::{Operand, Size, Width, fields};
+use record::{Operand, Size, Width};
 
 // Which of a pair of first bytes: the second one is for words.
 fn word(w: Width) -> u8
@@ -17,78 +20,78 @@ fn word(w: Width) -> u8
     }
 }
 
+// The code of an operand in the low nibble, behind h. (In u64, as every second byte: of names that do not go together it may be more than a byte.)
+pub fn nibbles(h: u8, o: Operand) -> u64
+    ensures { result ≡ 16 * h + code_of o }
+{
+    16 * u64::from(h) + u64::from(name_sets::code_of(o))
+}
+
 // No operand in the second byte.
-pub(crate) fn only(f: u8, b: u64, q: Asked) -> Code
+pub(crate) fn only(f: u8, b: u64, q: Asked) -> Option<Code>
     requires { f ≤ 0xFE }
     ensures { result ≡ coded (choice.only f b q) }
 {
-    let width = q.width;
-    Code {
-        first: f + word(width),
+    Some(Code {
+        first: f + word(q.width),
         second: b,
-    }
+    })
 }
 
 // The code of an operand in the low nibble.
-fn general(f: u8, h: u64, w: Width, o: Operand) -> Code
-    requires { (f ≤ 0xFE) × (h ≤ 15) }
+fn general(f: u8, h: u8, w: Width, o: Operand) -> Option<Code>
+    requires { f ≤ 0xFE }
     ensures { result ≡ coded (choice.general f h w o) }
 {
-    Code {
+    Some(Code {
         first: f + word(w),
-        second: 16 * h + (name_sets::code_of(o) as u64),
-    }
+        second: nibbles(h, o),
+    })
 }
 
 // Operand 0 is G(n).
-pub(crate) fn unary(f: u8, h: u64, q: Asked) -> Code
-    requires { (f ≤ 0xFE) × (h ≤ 15) }
+pub(crate) fn unary(f: u8, h: u8, q: Asked) -> Option<Code>
+    requires { f ≤ 0xFE }
     ensures { result ≡ coded (choice.unary f h q) }
 {
-    let width = q.width;
-    let op0 = q.op0;
-    general(f, h, width, op0)
+    general(f, h, q.width, q.op0)
 }
 
 // Operand 1 is G(n).
-pub(crate) fn binary(f: u8, h: u64, q: Asked) -> Code
-    requires { (f ≤ 0xFE) × (h ≤ 15) }
+pub(crate) fn binary(f: u8, h: u8, q: Asked) -> Option<Code>
+    requires { f ≤ 0xFE }
     ensures { result ≡ coded (choice.binary f h q) }
 {
-    let width = q.width;
-    let op1 = q.op1;
-    general(f, h, width, op1)
+    general(f, h, q.width, q.op1)
 }
 
 // Both for rows that are not document 01's, of any byte and nibble: f tells its pair.
-pub fn unary_of(f: u8, h: u8, q: Asked) -> Code
+pub fn unary_of(f: u8, h: u8, q: Asked) -> Option<Code>
     ensures { result ≡ coded (choice.unary (f / 2 * 2) (h % 16) q) }
 {
-    unary(f / 2 * 2, (h % 16) as u64, q)
+    unary(f / 2 * 2, h % 16, q)
 }
 
-pub fn binary_of(f: u8, h: u8, q: Asked) -> Code
+pub fn binary_of(f: u8, h: u8, q: Asked) -> Option<Code>
     ensures { result ≡ coded (choice.binary (f / 2 * 2) (h % 16) q) }
 {
-    binary(f / 2 * 2, (h % 16) as u64, q)
+    binary(f / 2 * 2, h % 16, q)
 }
 
 // Operands 0 and 1 are G(h) and G(n).
-pub(crate) fn twice(f: u8, q: Asked) -> Code
+pub(crate) fn twice(f: u8, q: Asked) -> Option<Code>
     requires { f ≤ 0xFE }
     ensures { result ≡ coded (choice.twice f q) }
 {
-    let op0 = q.op0;
-    binary(f, name_sets::code_of(op0) as u64, q)
+    binary(f, name_sets::code_of(q.op0), q)
 }
 
 // An immediate form, or one of two operands.
-pub(crate) fn arithmetic(a: u8, h: u64, f: u8, q: Asked) -> Code
-    requires { (a ≤ 0xFE) × (h ≤ 15) × (f ≤ 0xFE) }
+pub(crate) fn arithmetic(a: u8, h: u8, f: u8, q: Asked) -> Option<Code>
+    requires { (a ≤ 0xFE) × (f ≤ 0xFE) }
     ensures { result ≡ coded (choice.arithmetic a h f q) }
 {
-    let op0 = q.op0;
-    if names::is_wide(op0) {
+    if names::is_wide(q.op0) {
         binary(a, h, q)
     } else {
         twice(f, q)
@@ -96,12 +99,11 @@ pub(crate) fn arithmetic(a: u8, h: u64, f: u8, q: Asked) -> Code
 }
 
 // An immediate alone, or operand 0 is G(n).
-pub(crate) fn imm_or_unary(b: u64, f: u8, h: u64, q: Asked) -> Code
-    requires { (f ≤ 0xFE) × (h ≤ 15) }
+pub(crate) fn imm_or_unary(b: u64, f: u8, h: u8, q: Asked) -> Option<Code>
+    requires { f ≤ 0xFE }
     ensures { result ≡ coded (choice.imm_or_unary b f h q) }
 {
-    let op0 = q.op0;
-    if names::is_wide(op0) {
+    if names::is_wide(q.op0) {
         only(0x7C, b, q)
     } else {
         unary(f, h, q)
@@ -109,40 +111,35 @@ pub(crate) fn imm_or_unary(b: u64, f: u8, h: u64, q: Asked) -> Code
 }
 
 // 7E: operand 0 is T(n).
-pub(crate) fn bit(h: u64, q: Asked) -> Code
-    requires { h ≤ 15 }
+pub(crate) fn bit(h: u8, q: Asked) -> Option<Code>
     ensures { result ≡ coded (choice.bit h q) }
 {
-    let op0 = q.op0;
-    Code {
+    Some(Code {
         first: 0x7E,
-        second: 16 * h + (name_sets::code_of(op0) as u64),
-    }
+        second: nibbles(h, q.op0),
+    })
 }
 
 // The condition of a flag, 7D D, or of a bit.
-pub(crate) fn condition(n: u64, q: Asked) -> Code
-    requires { n ≤ 15 }
+pub(crate) fn condition(n: u8, q: Asked) -> Option<Code>
     ensures { result ≡ coded (choice.condition n q) }
 {
-    let w = q.width;
-    match w {
-        Width::W => Code {
+    match q.width {
+        Width::W => Some(Code {
             first: 0x7D,
-            second: 0xD0 + n,
-        },
+            second: 0xD0 + u64::from(n),
+        }),
         Width::B => bit(2, q),
         Width::None => bit(2, q),
     }
 }
 
 // DADD and the like: an immediate, or registers.
-pub(crate) fn decimal(i: u64, q: Asked) -> Code
-    requires { i ≤ 3 }
+pub(crate) fn decimal(i: u8, q: Asked) -> Option<Code>
     ensures { result ≡ coded (choice.decimal i q) }
 {
-    let op0 = q.op0;
-    if names::is_wide(op0) {
+    let i = u64::from(i);
+    if names::is_wide(q.op0) {
         only(0x7C, 0xEC + i, q)
     } else {
         only(0x7C, 0xE4 + i, q)
@@ -150,68 +147,57 @@ pub(crate) fn decimal(i: u64, q: Asked) -> Code
 }
 
 // MOVLL and the like: to R0L, which comes first, or from it.
-pub(crate) fn half(h: u64, q: Asked) -> Code
+pub(crate) fn half(h: u8, q: Asked) -> Option<Code>
     requires { h ≤ 3 }
     ensures { result ≡ coded (choice.half h q) }
 {
-    let op0 = q.op0;
-    let op1 = q.op1;
-    if fields::same_name(op1, Operand::R0L) {
-        return Code {
+    if q.op1 == Operand::R0L {
+        return Some(Code {
             first: 0x7C,
-            second: 16 * h + (name_sets::code_of(op0) as u64),
-        };
+            second: nibbles(h, q.op0),
+        });
     }
-    if fields::same_name(op0, Operand::R0L) {
-        return Code {
+    if q.op0 == Operand::R0L {
+        return Some(Code {
             first: 0x7C,
-            second: 16 * (8 + h) + (name_sets::code_of(op1) as u64),
-        };
+            second: nibbles(8 + h, q.op1),
+        });
     }
-    Code {
-        first: 0,
-        second: 0,
-    }
+    None
 }
 
 // STE and LDE: the operand beside G(n).
-pub(crate) fn far(o: Operand) -> u64
+pub(crate) fn far(o: Operand) -> u8
     ensures { (result ≡ choice.far o) × (result ≤ 2) }
 {
-    if fields::same_name(o, Operand::Abs20) {
-        return 0;
+    match o {
+        Operand::Abs20 => 0,
+        Operand::Disp20_A0 => 1,
+        _ => 2,
     }
-    if fields::same_name(o, Operand::Disp20_A0) {
-        return 1;
-    }
-    2
 }
 
-fn long(s: u64, q: Asked) -> Code
-    requires { s ≤ 2 }
+fn long(s: u8, q: Asked) -> Option<Code>
     ensures { result ≡ coded (choice.long s q) }
 {
-    let op0 = q.op0;
-    let op1 = q.op1;
-    if fields::same_name(op0, Operand::Imm4) {
-        return Code {
+    let pair = u64::from(s) + u64::from(name_sets::code_of(q.op1));
+    if q.op0 == Operand::Imm4 {
+        return Some(Code {
             first: 0xEB,
-            second: 16 * (8 + s + (name_sets::code_of(op1) as u64)) + (q.number as u64),
-        };
+            second: 16 * (8 + pair) + u64::from(q.number),
+        });
     }
-    Code {
+    Some(Code {
         first: 0xEB,
-        second: 16 * (s + (name_sets::code_of(op1) as u64)) + 1,
-    }
+        second: 16 * pair + 1,
+    })
 }
 
 // SHL and SHA: at size L a pair, by R1H or by Imm4.
-pub(crate) fn shift(h: u64, s: u64, q: Asked) -> Code
-    requires { (h ≤ 15) × (s ≤ 2) }
+pub(crate) fn shift(h: u8, s: u8, q: Asked) -> Option<Code>
     ensures { result ≡ coded (choice.shift h s q) }
 {
-    let size = q.size;
-    match size {
+    match q.size {
         Size::L => long(s, q),
         Size::None => binary(0x74, h, q),
         Size::B => binary(0x74, h, q),

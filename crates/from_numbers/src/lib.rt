@@ -5,41 +5,22 @@
 ghost use Rattle.std.specs.Prelude.{◌≡◌, ◌≤◌, ◌<◌, length, get_or};
 ghost use Rattle.from_numbers.specs.Made.{valid, made_of, record_of};
 
-use record::{Record, names};
+use record::{Opcode, Operand, Record, Size, Width, names};
 
 // Whether the first twelve numbers make a record.
 #[tactic(auto, using(crate::proofs::Valid::refused, crate::proofs::Valid::accepted))]
 pub fn is_record(numbers: &[u32]) -> bool
     ensures { result ≡ valid numbers.now }
 {
-    if numbers.len() < 12 {
-        return false;
-    }
-    if names::LAST_OPCODE < numbers[1] {
-        return false;
-    }
-    if names::LAST_SIZE < numbers[2] {
-        return false;
-    }
-    if names::LAST_WIDTH < numbers[3] {
-        return false;
-    }
-    if names::LAST_OPERAND < numbers[4] {
-        return false;
-    }
-    if names::LAST_OPERAND < numbers[5] {
-        return false;
-    }
-    if names::LAST_OPERAND < numbers[6] {
-        return false;
-    }
-    if 0xFFFF < numbers[8] {
-        return false;
-    }
-    if 0xFFFF < numbers[9] {
-        return false;
-    }
-    true
+    numbers.len() >= 12
+        && numbers[1] <= names::LAST_OPCODE
+        && numbers[2] <= names::LAST_SIZE
+        && numbers[3] <= names::LAST_WIDTH
+        && numbers[4] <= names::LAST_OPERAND
+        && numbers[5] <= names::LAST_OPERAND
+        && numbers[6] <= names::LAST_OPERAND
+        && numbers[8] <= 0xFFFF
+        && numbers[9] <= 0xFFFF
 }
 
 fn made_of(numbers: &[u32]) -> Record
@@ -51,12 +32,12 @@ fn made_of(numbers: &[u32]) -> Record
         dispabs: numbers[8] as u16,
         first: numbers[9] as u16,
         length: 0,
-        opcode: names::opcode_at(numbers[1]),
-        size: names::size_at(numbers[2]),
-        width: names::width_at(numbers[3]),
-        op0: names::operand_at(numbers[4]),
-        op1: names::operand_at(numbers[5]),
-        op2: names::operand_at(numbers[6]),
+        opcode: Opcode::from(numbers[1]),
+        size: Size::from(numbers[2]),
+        width: Width::from(numbers[3]),
+        op0: Operand::from(numbers[4]),
+        op1: Operand::from(numbers[5]),
+        op2: Operand::from(numbers[6]),
         marked: false,
         dropped: false,
         registers: 0,

@@ -6,7 +6,7 @@ ghost use Rattle.by_manual.specs.Table.{by_manual};
 ghost use Rattle.encode_rules.specs.Written.{outcome};
 ghost use Rattle.m16c_encode.specs.Numbers.{EncodesNumbers};
 
-use encode::Encoded;
+use record::refusal;
 
 // Encodes as m16c_encode does, by the manual: records that m16c_decode_manual fills. A record does not say which reading made it, and of one
 // that m16c_decode filled this may write another instruction: the record of 7D B9 becomes 7D B1.
@@ -18,7 +18,6 @@ pub fn m16c_encode_manual(
 ) -> u32
     ensures { EncodesNumbers by_manual numbers.now buf.old place (outcome result bytes_written.new buf.new) }
 {
-    let e: Encoded = m16c_encode::encode_numbers(numbers, buf, place, true);
-    *bytes_written = e.length;
-    e.refusal as u32
+    let written = m16c_encode::encode_numbers(numbers, buf, place, true);
+    refusal::leave(written, bytes_written)
 }

@@ -1,13 +1,14 @@
--- A choice as the code's two numbers: no choice is 0, 0, which is no code of the part.
-use Rattle.std.specs.Prelude.{Bool, true, false}
+-- A choice as what the code answers.
+use Rattle.std.specs.Prelude.{Bool, true, false, Option, Some, None}
 use Rattle.record.specs.declared.fields.Field.{Field}
 use Rattle.record.specs.declared.fields.Field.TheVariants.{Nowhere as nowhere, Wide as wide, Short as short, Early as early}
 use Rattle.encode_rules.specs.steps.Direct.{Choice, code, nothing}
 use Rattle.encode_choice.specs.declared.Code.{Code}
 
-abbrev pub coded : Choice → Code
-coded (code a b) = record { first = a; second = b }
-coded nothing = record { first = 0; second = 0 }
+-- the code's two numbers, if there is one
+abbrev pub coded : Choice → Option Code
+coded (code a b) = Some (record { first = a; second = b })
+coded nothing = None
 
 abbrev pub is_wide : Field → Bool
 is_wide wide = true

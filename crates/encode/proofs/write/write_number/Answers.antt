@@ -21,14 +21,14 @@ three l at a b c h = two (set l at a) (at + 1) b c (simp length-set (omega arith
 pub returns-then-n-eq1 : goal.returns-then-n-eq1
 returns-then-n-eq1 c =
     let e = c.if-n-eq1.true in
-    rw e (one c.args.out.now c.args.at _ (omega (arith, c.requires.1)))
+    rw e (one c.args.out.now c.args.at _ (omega (arith, c.requires)))
 
 pub returns-then-n-eq2 : goal.returns-then-n-eq2
 returns-then-n-eq2 c =
     let e = c.if-n-eq2.true in
-    rw e (two c.args.out.now c.args.at _ _ (omega (arith, c.requires.1)))
+    rw e (two c.args.out.now c.args.at _ _ (omega (arith, c.requires)))
 
 pub returns : goal.returns
 returns c =
-    let e : c.args.n ≡ 3 = omega (arith, c.requires.0) in
-    rw e (three c.args.out.now c.args.at _ _ _ (omega (arith, c.requires.1)))
+    let e : c.args.number.count ≡ 3 = omega (arith, c.args.number.short) in
+    rw e (three c.args.out.now c.args.at _ _ _ (omega (arith, c.requires)))
