@@ -4,8 +4,7 @@ ghost use Rattle.laws.specs.Over.{over};
 ghost use Rattle.line.specs.Left.{Writes};
 ghost use Rattle.line.specs.steps.Packed.{chars, text};
 
-use crate::Written;
-use record::refusal;
+use record::refusal::Refusal;
 
 // How many characters a word holds: one for each eight of its binary digits, and one for those left. 71 is 64 and 7.
 fn count(word: u64) -> usize
@@ -55,19 +54,13 @@ fn write_all(words: &[u64], out: &mut [u8])
     }
 }
 
-pub fn deliver(words: &[u64], out: &mut [u8]) -> Written
+pub fn deliver(words: &[u64], out: &mut [u8]) -> Result<usize, Refusal>
     ensures { Writes (text words.now) out.old result out.new }
 {
     let n = count_all(words);
     if out.len() < n {
-        return Written {
-            refusal: refusal::TOO_LITTLE_ROOM,
-            length: 0,
-        };
+        return Err(Refusal::TooLittleRoom);
     }
     write_all(words, out);
-    Written {
-        refusal: refusal::ACCEPTED,
-        length: n,
-    }
+    Ok(n)
 }

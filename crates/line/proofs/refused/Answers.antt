@@ -7,4 +7,4 @@ use Rattle.line.proofs.Lined.{refusing}
 use Rattle.line.proofs.refused.Goals as goal
 
 pub returns : goal.returns
-returns c = said c.args.out.now (ap text c.refused_words-words.ensures ∙ refusing c.args.place c.args.refusal c.args.taken) c.deliver.ensures
+returns c = said c.args.out.now (ap text c.refused_words-words.ensures ∙ refusing c.args.place _ c.args.e.taken) c.deliver.ensures
