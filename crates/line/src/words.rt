@@ -46,13 +46,11 @@ fn digits(n: u8, v: u64) -> u64
     requires { n ≤ 5 }
     ensures { (result ≡ pack (hex n v)) × (result < 0x10000000000) }
 {
-    let mut word: u64 = 0;
+    let mut word = 0;
     let mut rest = v;
-    let mut k: u8 = 0;
-    while k < n {
+    for _k in 0..n {
         word = digit_of(rest % 16) + 0x100 * word;
-        rest = rest / 16;
-        k += 1;
+        rest /= 16;
     }
     word
 }

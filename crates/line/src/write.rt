@@ -18,26 +18,22 @@ fn write_word(word: u64, out: &mut [u8]) -> usize
     ensures { (result ≡ length (chars word)) × (out.new ≡ over (chars word) out.old) }
 {
     let mut rest = word;
-    let mut n: usize = 0;
-    while n < 8 {
+    for n in 0..8 {
         if rest == 0 {
             return n;
         }
         out[n] = (rest % 256) as u8;
-        rest = rest / 256;
-        n += 1;
+        rest /= 256;
     }
-    n
+    8
 }
 
 fn count_all(words: &[u64]) -> usize
     ensures { result ≡ length (text words.now) }
 {
-    let mut n: usize = 0;
-    let mut k: usize = 0;
-    while k < words.len() {
-        n = n + count(words[k]);
-        k += 1;
+    let mut n = 0;
+    for &word in words {
+        n += count(word);
     }
     n
 }
@@ -46,11 +42,9 @@ fn write_all(words: &[u64], out: &mut [u8])
     requires { length (text words.now) ≤ length out.old }
     ensures { out.new ≡ over (text words.now) out.old }
 {
-    let mut at: usize = 0;
-    let mut next: usize = 0;
-    while next < words.len() {
-        at = at + write_word(words[next], &mut out[at..]);
-        next += 1;
+    let mut at = 0;
+    for &word in words {
+        at += write_word(word, &mut out[at..]);
     }
 }
 
