@@ -31,6 +31,7 @@ pub fn line_from_width(r: Record, out: &mut [u8]) -> Result<usize, Refusal>
 }
 
 // The line at an image's end.
+#[tactic(auto, using(crate::proofs::Room::said, crate::proofs::Lined::ending))]
 pub fn end(place: usize, out: &mut [u8]) -> Result<usize, Refusal>
     ensures { Writes (end_text place) out.old result out.new }
 {
@@ -39,6 +40,7 @@ pub fn end(place: usize, out: &mut [u8]) -> Result<usize, Refusal>
 }
 
 // The line of a refused place.
+#[tactic(auto, using(crate::proofs::Room::said, crate::proofs::Lined::refusing))]
 pub fn refused(place: usize, e: Refused, out: &mut [u8]) -> Result<usize, Refusal>
     ensures { Writes (refused_text place (number_of e.why) e.taken) out.old result out.new }
 {

@@ -48,6 +48,7 @@ fn write_all(words: &[u64], out: &mut [u8])
     }
 }
 
+#[tactic(auto, using(crate::proofs::Room::no_room, crate::proofs::Room::room))]
 pub fn deliver(words: &[u64], out: &mut [u8]) -> Result<usize, Refusal>
     ensures { Writes (text words.now) out.old result out.new }
 {

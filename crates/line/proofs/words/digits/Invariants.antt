@@ -10,4 +10,3 @@ invariant-loop-k l = record {
   packed : l.word ≡ pack (hex l._k l.v);
   left : l.rest ≡ l.v / 16 ^ l._k;
 }
-
