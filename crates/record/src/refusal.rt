@@ -1,6 +1,6 @@
 // Why a function refuses. scripts/interface takes names, numbers and comments into the header and the Rust crate, where 0 is done.
 ghost use Rattle.std.specs.Prelude.{◌≡◌};
-ghost use Rattle.record.specs.Answer.{number_of};
+ghost use Rattle.record.specs.Answer.{number_of, refusal_in, length_in};
 
 #[derive(Clone, Copy, PartialEq, Eq)]
 pub enum Refusal {
@@ -25,5 +25,21 @@ impl From<Refusal> for u32 {
 
     fn from(x: Refusal) -> u32 {
         x as u32
+    }
+}
+
+// What C is told of a result: its number is returned, its length left.
+pub fn leave(r: Result<usize, Refusal>, length: &mut usize) -> u32
+    ensures { (result ≡ refusal_in r) × (length.new ≡ length_in r) }
+{
+    match r {
+        Ok(n) => {
+            *length = n;
+            0
+        }
+        Err(why) => {
+            *length = 0;
+            u32::from(why)
+        }
     }
 }
