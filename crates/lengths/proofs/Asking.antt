@@ -4,6 +4,7 @@ use Prim.Native.Nat.{ℕ, ◌<◌}
 use mathlib.Core.Path.{◌≡◌, refl, sym, ap, ◌∙◌}
 use mathlib.Core.Bool.{Bool, true, false}
 use mathlib.Core.List.{List, [], ◌∷◌}
+use Rattle.std.specs.Prelude.{Some, None}
 use native.Mathlib.Omega.{arith}
 use lib.Dec.{T, ltb, ltb→lt}
 use lib.ListN.{length, get_or}
@@ -14,25 +15,37 @@ use Rattle.laws.proofs.Range.{upto_at}
 use Rattle.rows.specs.Groups.{known, document01}
 use Rattle.lengths.specs.Length.{LengthOf}
 use Rattle.lengths.specs.steps.Table.{rows, table}
-use Rattle.lengths.specs.steps.Entry.{place, character, entry_at, refusal_in, length_in, too_few, entry_of}
-use Rattle.lengths.proofs.Place.{below, past}
+use Rattle.lengths.specs.steps.Entry.{place, character, entry_at, refusal_in, length_in, too_few, entry_of, is_entry}
+use Rattle.lengths.proofs.Place.{below}
 use Rattle.lengths.proofs.Laws.{of_outside, of_none, of_one}
 use Rattle.lengths.proofs.Rule.{entry_right}
 
--- by its place a first byte is told to be known, or outside
-pub past_unknown : (a : ℕ) → place a ≡ rows → known a ≡ false
-past_unknown a p = by (known a) refl
+-- a first byte with a place is known, and one with none is outside
+pub some_known_at : (a : ℕ) {p : ℕ} → Some p ≡ pick (known a) (Some (place a)) None → (known a ≡ true) × (p ≡ place a)
+some_known_at a {p} e = by (known a) refl e
   where
-    by : (x : Bool) → known a ≡ x → x ≡ false
-    by true e = absurd (omega (arith, below a e))
-    by false e = refl
+    by : (x : Bool) → known a ≡ x → Some p ≡ pick x (Some (place a)) None → (known a ≡ true) × (p ≡ place a)
+    by true k e = (k, cc)
+    by false k e = absurd cc
 
-pub inside_known : (a : ℕ) → (place a ≡ rows → ⊥) → known a ≡ true
-inside_known a p = by (known a) refl
+pub none_unknown : (a : ℕ) → None ≡ pick (known a) (Some (place a)) None → known a ≡ false
+none_unknown a e = by (known a) refl e
   where
-    by : (x : Bool) → known a ≡ x → x ≡ true
-    by true e = refl
-    by false e = absurd (p (past a e))
+    by : (x : Bool) → known a ≡ x → None ≡ pick x (Some (place a)) None → known a ≡ false
+    by true k e = absurd cc
+    by false k e = k
+
+truly : (b : Bool) → T b → b ≡ true
+truly true t = refl
+truly false t = absurd t
+
+-- each entry of the table is told
+all_told : T (upto (λ p. upto (λ b. is_entry (character p b)) 256) rows)
+unfolding upto table character
+all_told = tt
+
+pub is_told : (p b : ℕ) → p < rows → b < 256 → is_entry (character p b) ≡ true
+is_told p b h l = truly _ (upto_at (λ b. is_entry (character p b)) 256 (upto_at (λ p. upto (λ b. is_entry (character p b)) 256) rows all_told p h) b l)
 
 -- and by its entry, since none of the table is 0
 none_zero : T (upto (λ p. upto (λ b. ltb 0 (entry_at p b)) 256) rows)
@@ -69,10 +82,16 @@ unfolding too_few
 of_no_byte [] l = refl
 of_no_byte (a ∷ bs) l = absurd (omega arith)
 
-pub of_first : (bs : List ℕ) {k : Bool} → 0 < length bs → known (get_or bs 0 0) ≡ k → pick k 1 4 ≡ too_few bs
+of_first : (bs : List ℕ) {k : Bool} → 0 < length bs → known (get_or bs 0 0) ≡ k → pick k 1 4 ≡ too_few bs
 unfolding too_few
 of_first [] l e = absurd (omega arith)
 of_first (a ∷ bs) l e = ap (λ k. pick k 1 4) (sym e)
+
+pub of_inside_byte : (bs : List ℕ) {p : ℕ} → 0 < length bs → Some p ≡ pick (known (get_or bs 0 0)) (Some (place (get_or bs 0 0))) None → 1 ≡ too_few bs
+of_inside_byte bs l e = of_first bs l (some_known_at _ e).0
+
+pub of_outside_byte : (bs : List ℕ) → 0 < length bs → None ≡ pick (known (get_or bs 0 0)) (Some (place (get_or bs 0 0))) None → 4 ≡ too_few bs
+of_outside_byte bs l e = of_first bs l (none_unknown _ e)
 
 -- the three ways to answer, in the form that the tests give
 pub few_right : (bs : List ℕ) → length bs < 2 → LengthOf document01 bs (too_few bs) 0

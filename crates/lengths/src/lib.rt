@@ -5,14 +5,16 @@
 mod first;
 mod table;
 
-ghost use Rattle.std.specs.Prelude.{◌≡◌};
+ghost use Rattle.std.specs.Prelude.{◌≡◌, IsTrue};
+ghost use Rattle.record.specs.Answer.{number_of, refusal_in, length_in};
 ghost use Rattle.rows.specs.Groups.{document01};
 ghost use Rattle.lengths.specs.Length.{LengthOf};
-ghost use Rattle.lengths.specs.steps.Entry.{value_of, refusal_in, length_in, too_few};
+ghost use Rattle.lengths.specs.steps.Entry as entries;
 
-use record::refusal;
+use record::refusal::Refusal;
 
-// 0 and a length, or a refusal and 0.
+// What an entry's number tells: 0 and a length, or a refusal and 0. (No Result: `told` says of every number what is in it, of those too
+// that have both, or a refusal that there is none of.)
 #[derive(Clone, Copy)]
 pub struct Length {
     pub refusal: u32,
@@ -20,22 +22,22 @@ pub struct Length {
 }
 
 // What fewer than two bytes are refused with, 4 before 1. Of more the first counts alone.
-#[tactic(auto, using(crate::proofs::Asking::of_no_byte))]
-pub fn too_few(bytes: &[u8]) -> u8
-    ensures { result ≡ too_few bytes.now }
+#[tactic(auto, using(crate::proofs::Asking::of_no_byte, crate::proofs::Asking::of_outside_byte, crate::proofs::Asking::of_inside_byte))]
+pub fn too_few(bytes: &[u8]) -> Refusal
+    ensures { number_of result ≡ entries.too_few bytes.now }
 {
-    if bytes.len() == 0 {
-        return refusal::EXHAUSTED_INPUT;
+    if bytes.is_empty() {
+        return Refusal::ExhaustedInput;
     }
-    if first::place_of(bytes[0]) == table::ROWS {
-        return refusal::FIRST_BYTE_OUTSIDE;
+    match first::place_of(bytes[0]) {
+        Some(_) => Refusal::ExhaustedInput,
+        None => Refusal::FirstByteOutside,
     }
-    refusal::EXHAUSTED_INPUT
 }
 
 // What an entry tells.
 pub fn told(entry: u32) -> Length
-    ensures { (result.refusal ≡ refusal_in entry) × (result.length ≡ length_in entry) }
+    ensures { (result.refusal ≡ entries.refusal_in entry) × (result.length ≡ entries.length_in entry) }
 {
     Length {
         refusal: entry / 8,
@@ -43,37 +45,29 @@ pub fn told(entry: u32) -> Length
     }
 }
 
-// The entry that a character of the table stands for.
-fn value_of(c: u8) -> u8
-    ensures { result ≡ value_of c }
+// The same of a character of the table.
+fn told_by(c: u8) -> Result<usize, Refusal>
+    requires { IsTrue (entries.is_entry c) }
+    ensures { (refusal_in result ≡ entries.refusal_in (entries.value_of c)) × (length_in result ≡ entries.length_in (entries.value_of c)) }
 {
-    if c <= b'9' {
-        return c % 16;
-    }
-    8 * (c % 16)
-}
-
-fn refused(e: u8) -> Length
-    ensures { (result.refusal ≡ e) × (result.length ≡ 0) }
-{
-    Length {
-        refusal: e as u32,
-        length: 0,
+    match c {
+        b'B' => Err(Refusal::InvalidOpcode),
+        b'C' => Err(Refusal::InvalidOperand),
+        _ => Ok(usize::from(c - b'0')),
     }
 }
 
 // The length that every accepted string has that begins with the first two bytes; or, if none is accepted, what long enough ones are
 // refused with. 4 for a first byte outside, then 1 for fewer than two bytes.
-#[tactic(auto, using(crate::proofs::Asking::few_right, crate::proofs::Asking::outside_right, crate::proofs::Asking::entry_told, crate::proofs::Asking::past_unknown, crate::proofs::Asking::inside_known, crate::proofs::Place::below))]
-pub fn length_of(bytes: &[u8]) -> Length
-    ensures { LengthOf document01 bytes.now result.refusal result.length }
+#[tactic(auto, using(crate::proofs::Asking::few_right, crate::proofs::Asking::outside_right, crate::proofs::Asking::entry_told, crate::proofs::Asking::none_unknown, crate::proofs::Asking::some_known_at, crate::proofs::Asking::is_told, crate::proofs::Place::below))]
+pub fn length_of(bytes: &[u8]) -> Result<usize, Refusal>
+    ensures { LengthOf document01 bytes.now (refusal_in result) (length_in result) }
 {
     if bytes.len() < 2 {
-        return refused(too_few(bytes));
+        return Err(too_few(bytes));
     }
-    let place = first::place_of(bytes[0]);
-    if place == table::ROWS {
-        return refused(refusal::FIRST_BYTE_OUTSIDE);
-    }
-    told(value_of(table::character(place, bytes[1] as usize)) as u32)
+    let Some(place) = first::place_of(bytes[0]) else {
+        return Err(Refusal::FirstByteOutside);
+    };
+    told_by(table::character(place, usize::from(bytes[1])))
 }

@@ -3,8 +3,6 @@ ghost use Rattle.std.specs.Prelude.{◌≡◌, ◌<◌};
 ghost use Rattle.lengths.specs.steps.Table.{rows};
 ghost use Rattle.lengths.specs.steps.Entry.{character};
 
-pub(crate) const ROWS: usize = 13;
-
 // The entry of every code: the digit of a length, or a letter for a refusal, B for 2 and C for 3. Sixty-four to a line, by the second
 // byte.
 const LENGTHS: [[u8; 256]; 13] = [

@@ -6,20 +6,16 @@ mod names; // names
 mod words; // the line in parts
 mod write; // the parts into the buffer
 
+ghost use Rattle.record.specs.Answer.{number_of};
 ghost use Rattle.line.specs.Left.{Writes};
 ghost use Rattle.line.specs.Line.{line_of, from_width, end_text, refused_text};
 
 use record::Record;
+use record::refusal::{Refusal, Refused};
 
-// Refusal 0 and the length written, or 6 and 0.
-#[derive(Clone, Copy)]
-pub struct Written {
-    pub refusal: u8,
-    pub length: usize,
-}
-
+// Each answers the length written, or that there is too little room.
 // The line of a record at a place.
-pub fn line(place: usize, r: Record, out: &mut [u8]) -> Written
+pub fn line(place: usize, r: Record, out: &mut [u8]) -> Result<usize, Refusal>
     ensures { Writes (line_of place r) out.old result out.new }
 {
     let words = words::words_of(words::place_word(place), words::length_word(r.length), r);
@@ -27,7 +23,7 @@ pub fn line(place: usize, r: Record, out: &mut [u8]) -> Written
 }
 
 // The same from the width on.
-pub fn line_from_width(r: Record, out: &mut [u8]) -> Written
+pub fn line_from_width(r: Record, out: &mut [u8]) -> Result<usize, Refusal>
     ensures { Writes (from_width r) out.old result out.new }
 {
     let words = words::words_of(0, 0, r);
@@ -35,7 +31,8 @@ pub fn line_from_width(r: Record, out: &mut [u8]) -> Written
 }
 
 // The line at an image's end.
-pub fn end(place: usize, out: &mut [u8]) -> Written
+#[tactic(auto, using(crate::proofs::Room::said, crate::proofs::Lined::ending))]
+pub fn end(place: usize, out: &mut [u8]) -> Result<usize, Refusal>
     ensures { Writes (end_text place) out.old result out.new }
 {
     let words = words::end_words(place);
@@ -43,9 +40,10 @@ pub fn end(place: usize, out: &mut [u8]) -> Written
 }
 
 // The line of a refused place.
-pub fn refused(place: usize, refusal: u8, taken: usize, out: &mut [u8]) -> Written
-    ensures { Writes (refused_text place refusal taken) out.old result out.new }
+#[tactic(auto, using(crate::proofs::Room::said, crate::proofs::Lined::refusing))]
+pub fn refused(place: usize, e: Refused, out: &mut [u8]) -> Result<usize, Refusal>
+    ensures { Writes (refused_text place (number_of e.why) e.taken) out.old result out.new }
 {
-    let words = words::refused_words(place, refusal, taken);
+    let words = words::refused_words(place, e);
     write::deliver(&words, out)
 }

@@ -1,20 +1,22 @@
-// A record's line as packed words.
+// A record's line as packed words: no text lies in memory until it is delivered (there is no heap), and a word is written at once.
 ghost use Rattle.std.specs.Prelude.{◌≡◌, ◌∷◌, map, ◌<◌, ◌≤◌, nat_abs};
-ghost use Rattle.record.specs.Signed.{number_of};
+ghost use Rattle.record.specs.Answer.{number_of};
+ghost use Rattle.record.specs.Signed as signs;
 ghost use Rattle.line.specs.Characters.{digit, hex};
 ghost use Rattle.line.specs.Line.{width_text, size_text, digits_of, sign_text, number_text, dropped_text};
 ghost use Rattle.line.specs.steps.Packed.{pack, place_text, length_text, parts, end_parts, refused_parts};
 
 use crate::names;
+use record::refusal::Refused;
 use record::{Operand, Record, Size, Width, fields, signed};
 
 fn width_word(x: Width) -> u64
     ensures { result ≡ pack (width_text x) }
 {
     match x {
-        Width::None => 0x2D,
-        Width::B => 0x42,
-        Width::W => 0x57,
+        Width::None => 0x2D, // -
+        Width::B => 0x42, // B
+        Width::W => 0x57, // W
     }
 }
 
@@ -23,12 +25,13 @@ fn size_word(x: Size) -> u64
 {
     match x {
         Size::None => 0,
-        Size::B => 0x422E,
-        Size::W => 0x572E,
-        Size::L => 0x4C2E,
+        Size::B => 0x422E, // .B
+        Size::W => 0x572E, // .W
+        Size::L => 0x4C2E, // .L
     }
 }
 
+#[tactic(auto, unfolding(crate::specs::Characters::digit))]
 fn digit_of(d: u64) -> u64
     requires { d < 16 }
     ensures { result ≡ digit d }
@@ -44,18 +47,17 @@ fn digits(n: u8, v: u64) -> u64
     requires { n ≤ 5 }
     ensures { (result ≡ pack (hex n v)) × (result < 0x10000000000) }
 {
-    let mut word: u64 = 0;
+    let mut word = 0;
     let mut rest = v;
-    let mut k: u8 = 0;
-    while k < n {
+    for _k in 0..n {
         word = digit_of(rest % 16) + 0x100 * word;
-        rest = rest / 16;
-        k += 1;
+        rest /= 16;
     }
     word
 }
 
 // How many digits of a name's number are shown.
+#[tactic(auto, unfolding(crate::specs::Line::digits_of, record::specs::Same::among, record::specs::Same::same_name))]
 fn digits_of(x: Operand) -> u8
     ensures { (result ≡ digits_of x) × (result ≤ 5) }
 {
@@ -102,29 +104,19 @@ fn sign_of(n: i64) -> u64
     0x2B
 }
 
-// How far a number is from zero; of a negative one counted from -1, so that the least one has its distance too.
-fn distance(n: i64) -> u64
-    ensures { result ≡ nat_abs n }
-{
-    if n < 0 {
-        return ((-1 - n) as u64) + 1;
-    }
-    n as u64
-}
-
 // `=`, the sign of a signed number, and the digits, of which a signed one has two.
 fn number_word(x: Operand, v: u32) -> u64
-    ensures { result ≡ pack (number_text x (number_of x v)) }
+    ensures { result ≡ pack (number_text x (signs.number_of x v)) }
 {
     if signed::is_signed(x) {
         let n = signed::number_of(x, v);
-        return 0x3D + 0x100 * (sign_of(n) + 0x100 * digits(2, distance(n)));
+        return 0x3D + 0x100 * (sign_of(n) + 0x100 * digits(2, n.unsigned_abs()));
     }
     let count = digits_of(x);
     if count == 0 {
         return 0;
     }
-    0x3D + 0x100 * digits(count, v as u64)
+    0x3D + 0x100 * digits(count, u64::from(v))
 }
 
 fn dropped_word(x: bool) -> u64
@@ -182,17 +174,20 @@ pub fn length_word(n: usize) -> u64
 pub fn end_words(place: usize) -> [u64; 2]
     ensures { result ≡ map pack (end_parts place) }
 {
-    [0x20444E45, digits(4, place as u64)]
+    [
+        0x20444E45, // END
+        digits(4, place as u64),
+    ]
 }
 
-pub fn refused_words(place: usize, refusal: u8, taken: usize) -> [u64; 5]
-    ensures { result ≡ map pack (refused_parts place refusal taken) }
+pub fn refused_words(place: usize, e: Refused) -> [u64; 5]
+    ensures { result ≡ map pack (refused_parts place (number_of e.why) e.taken) }
 {
     [
         digits(4, place as u64),
-        0x4445535546455220,
-        0x20 + 0x100 * digits(1, refusal as u64),
-        0x204E454B415420,
-        digits(1, taken as u64),
+        0x4445535546455220, // REFUSED
+        0x20 + 0x100 * digits(1, u64::from(u32::from(e.why))),
+        0x204E454B415420, // TAKEN
+        digits(1, e.taken as u64),
     ]
 }

@@ -4,8 +4,7 @@ ghost use Rattle.laws.specs.Over.{over};
 ghost use Rattle.line.specs.Left.{Writes};
 ghost use Rattle.line.specs.steps.Packed.{chars, text};
 
-use crate::Written;
-use record::refusal;
+use record::refusal::Refusal;
 
 // How many characters a word holds: one for each eight of its binary digits, and one for those left. 71 is 64 and 7.
 fn count(word: u64) -> usize
@@ -19,26 +18,22 @@ fn write_word(word: u64, out: &mut [u8]) -> usize
     ensures { (result ≡ length (chars word)) × (out.new ≡ over (chars word) out.old) }
 {
     let mut rest = word;
-    let mut n: usize = 0;
-    while n < 8 {
+    for n in 0..8 {
         if rest == 0 {
             return n;
         }
         out[n] = (rest % 256) as u8;
-        rest = rest / 256;
-        n += 1;
+        rest /= 256;
     }
-    n
+    8
 }
 
 fn count_all(words: &[u64]) -> usize
     ensures { result ≡ length (text words.now) }
 {
-    let mut n: usize = 0;
-    let mut k: usize = 0;
-    while k < words.len() {
-        n = n + count(words[k]);
-        k += 1;
+    let mut n = 0;
+    for &word in words {
+        n += count(word);
     }
     n
 }
@@ -47,27 +42,20 @@ fn write_all(words: &[u64], out: &mut [u8])
     requires { length (text words.now) ≤ length out.old }
     ensures { out.new ≡ over (text words.now) out.old }
 {
-    let mut at: usize = 0;
-    let mut next: usize = 0;
-    while next < words.len() {
-        at = at + write_word(words[next], &mut out[at..]);
-        next += 1;
+    let mut at = 0;
+    for &word in words {
+        at += write_word(word, &mut out[at..]);
     }
 }
 
-pub fn deliver(words: &[u64], out: &mut [u8]) -> Written
+#[tactic(auto, using(crate::proofs::Room::no_room, crate::proofs::Room::room))]
+pub fn deliver(words: &[u64], out: &mut [u8]) -> Result<usize, Refusal>
     ensures { Writes (text words.now) out.old result out.new }
 {
     let n = count_all(words);
     if out.len() < n {
-        return Written {
-            refusal: refusal::TOO_LITTLE_ROOM,
-            length: 0,
-        };
+        return Err(Refusal::TooLittleRoom);
     }
     write_all(words, out);
-    Written {
-        refusal: refusal::ACCEPTED,
-        length: n,
-    }
+    Ok(n)
 }

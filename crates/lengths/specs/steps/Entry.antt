@@ -1,6 +1,6 @@
 -- Where the entry of a code stands in the table, and what it tells.
-use Rattle.std.specs.Prelude.{ℕ, suc, ◌*◌, ◌/◌, ◌%◌, List, [], ◌∷◌, get_or, leb}
-use Rattle.laws.specs.Choice.{pick}
+use Rattle.std.specs.Prelude.{ℕ, suc, ◌*◌, ◌/◌, ◌%◌, Bool, List, [], ◌∷◌, get_or, eqb, leb}
+use Rattle.laws.specs.Choice.{pick, both, either}
 use Rattle.rows.specs.Groups.{known}
 use Rattle.rows.specs.Lists.{one_of}
 use Rattle.lengths.specs.steps.Table.{sharing, table}
@@ -16,6 +16,10 @@ place = place_in sharing
 -- a length by its digit, or eight times a refusal by its letter
 abbrev pub value_of : ℕ → ℕ
 value_of c = pick (leb c 57) (c % 16) (8 * (c % 16))
+
+-- the characters that the table has: a digit up to 7, B and C
+abbrev pub is_entry : ℕ → Bool
+is_entry c = either (both (leb 48 c) (leb c 55)) (either (eqb c 66) (eqb c 67))
 
 -- by a row's place and a second byte
 unfoldable pub character : ℕ → ℕ → ℕ

@@ -12,14 +12,14 @@ pub loop-k-init : goal.loop-k-init
 loop-k-init c = record { passed = omega arith; packed = refl; left = sym (div-one _) }
 
 pub overflow_mul-word : goal.overflow_mul-word
-overflow_mul-word c = omega (arith, five c.loop-k.k c.args.v (omega arith))
+overflow_mul-word c = omega (arith, five c.loop-k._k c.args.v (omega arith))
 
 pub overflow_add-word : goal.overflow_add-word
-overflow_add-word c = omega (arith, five c.loop-k.k c.args.v (omega arith), character (c.loop-k.rest % 16) (omega arith))
+overflow_add-word c = omega (arith, five c.loop-k._k c.args.v (omega arith), character (c.loop-k.rest % 16) (omega arith))
 
 pub loop-k-preserved : goal.loop-k-preserved
 loop-k-preserved c =
-    let k = c.loop-k.k in
+    let k = c.loop-k._k in
     let i = c.loop-k.invariant in record {
       passed = omega arith;
       packed = rw (add-one k) (rw (c.digit_of.ensures, i.packed, i.left));
@@ -30,5 +30,5 @@ pub returns : goal.returns
 returns c =
     let n = c.args.n in
     let v = c.args.v in
-    let e : c.loop-k.k ≡ n = omega arith in
-    (c.loop-k.invariant.packed ∙ ap (λ k. pack (hex k v)) e, omega (arith, five c.loop-k.k v (omega arith)))
+    let e : c.loop-k._k ≡ n = omega arith in
+    (c.loop-k.invariant.packed ∙ ap (λ k. pack (hex k v)) e, omega (arith, five c.loop-k._k v (omega arith)))
