@@ -1,6 +1,7 @@
 -- 7D: the code's tables and tests are document 01's rows.
 -- Assumes nothing.
-use Prim.Native.Nat.{ℕ, ◌<◌}
+use Prim.Native.Nat.{ℕ, ◌≤◌, ◌<◌}
+use native.Mathlib.Omega.{arith}
 use mathlib.Core.Path.{◌≡◌, refl}
 use mathlib.Core.List.{[], ◌∷◌}
 use lib.Dec.{ltb}
@@ -9,6 +10,11 @@ use Rattle.laws.proofs.Agree.{agree, Rest, agree_past}
 use Rattle.rows.specs.Row.{InvalidOpcode, Row}
 use Rattle.rows.specs.Rows.{row, refused, star_if, jump, flagged, row_7D, row_7DC, row_7DD, row_7DF}
 use Rattle.decode_7c.specs.steps.Op7D.{jump_by, no_condition, jump_at, condition_by, marked_by}
+
+-- no row at 6, 7 and 8
+pub vacant : (n h : ℕ) → 6 ≤ h → h < 9 → row_7D h n ≡ refused InvalidOpcode
+unfolding row row_7D
+vacant n h l u = grind arith
 
 abbrev pub table_J : ℕ → Row
 table_J n = pick (ltb n 8) (refused InvalidOpcode) (pick (no_condition n) (refused InvalidOpcode) (jump (jump_at n)))

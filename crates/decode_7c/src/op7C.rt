@@ -1,4 +1,3 @@
-#![tactic(auto, using(crate::proofs::Onto::steps), unfolding(rows::specs::Run::run_row, rows::specs::Rows::row, crate::specs::steps::Op7C::nibble, rows::specs::Rows::row_7C, rows::specs::Rows::row_7CF))]
 ghost use Rattle.std.specs.Prelude.{◌≡◌, ◌/◌, ◌%◌};
 ghost use Rattle.record.specs.Answer.{answer_of};
 ghost use Rattle.rows.specs.Rows.{exts, exts_C, row_7C, row_7CF};
@@ -11,6 +10,7 @@ use readers::{general, long, numbers, set};
 use record::refusal::Refusal;
 use record::{Opcode, Operand, Size, Width};
 
+// The rows of 7C are at width B, those of 7D at W.
 const AT_B: Face = Face {
     width: Width::B,
     ..shared::NAMELESS
@@ -31,6 +31,7 @@ fn nibble_mark(b: u8) -> bool
 }
 
 // MOVLL and the like: from G(n) to R0L below h = 8, else from R0L to G(n).
+#[tactic(auto, using(crate::proofs::RowSteps::steps), unfolding(rows::specs::Run::run_row, rows::specs::Rows::row, crate::specs::steps::Op7C::nibble))]
 fn move_nibble(bs: &[u8], b: u8) -> Decoded
     ensures { answer_of result ≡ run_row (nibble (b / 16) (b % 16)) bs.now }
 {
@@ -53,7 +54,7 @@ fn move_nibble(bs: &[u8], b: u8) -> Decoded
 }
 
 // EXTS.B has no R0H, R1H, A0, A1.
-#[tactic(auto, using(crate::proofs::Onto::steps, crate::proofs::Table7C::no_exts_lem), unfolding(rows::specs::Run::run_row, rows::specs::Rows::row))]
+#[tactic(auto, using(crate::proofs::RowSteps::steps, crate::proofs::Table7C::no_exts_lem), unfolding(rows::specs::Run::run_row, rows::specs::Rows::row))]
 fn extend_byte(bs: &[u8], b: u8) -> Decoded
     ensures { answer_of result ≡ run_row (exts (b % 16)) bs.now }
 {
@@ -88,6 +89,7 @@ fn extend_pair(bs: &[u8], b: u8) -> Decoded
 }
 
 // ENTER: one byte.
+#[tactic(auto, using(crate::proofs::RowSteps::steps), unfolding(rows::specs::Run::run_row, rows::specs::Rows::row, rows::specs::Rows::row_7CF))]
 fn enter(bs: &[u8]) -> Decoded
     ensures { answer_of result ≡ run_row (row_7CF 2) bs.now }
 {
@@ -101,6 +103,7 @@ fn enter(bs: &[u8]) -> Decoded
 }
 
 // h = F, by n.
+#[tactic(auto, using(crate::proofs::RowSteps::steps), unfolding(rows::specs::Run::run_row, rows::specs::Rows::row, rows::specs::Rows::row_7CF))]
 fn row_F(bs: &[u8], b: u8) -> Decoded
     ensures { answer_of result ≡ run_row (row_7CF (b % 16)) bs.now }
 {
@@ -123,6 +126,7 @@ fn row_F(bs: &[u8], b: u8) -> Decoded
     Ok(face.with(BEGIN))
 }
 
+#[tactic(auto, using(crate::proofs::RowSteps::steps), unfolding(rows::specs::Run::run_row, rows::specs::Rows::row, rows::specs::Rows::row_7C))]
 pub fn decode_op7C(bs: &[u8], b: u8) -> Decoded
     ensures { answer_of result ≡ run_row (row_7C (b / 16) (b % 16)) bs.now }
 {

@@ -1,5 +1,4 @@
 // What 7C and 7D have together: byte is true on 7C.
-#![tactic(auto, using(crate::proofs::Onto::steps), unfolding(rows::specs::Run::run_row, rows::specs::Rows::row))]
 ghost use Rattle.std.specs.Prelude.{◌≡◌, ◌%◌};
 ghost use Rattle.record.specs.Answer.{answer_of};
 ghost use Rattle.rows.specs.Rows.{context, row_E};
@@ -12,7 +11,7 @@ use readers::{mul, numbers, set};
 use record::refusal::Refusal;
 use record::{Opcode, Operand, Size, Width};
 
-// A row that names nothing: of the others, each says what it names.
+// A row that names nothing. Each row says what it has in place of this.
 pub const NAMELESS: Face = Face {
     opcode: Opcode::NOP,
     size: Size::None,
@@ -30,24 +29,27 @@ pub fn mul_immediate(bs: &[u8], byte: bool, unsigned: bool, b: u8) -> Decoded
         return answer::refuse(Refusal::InvalidOperand, 2);
     }
     let s = numbers::immediate(bs, byte, BEGIN)?;
-    let signed = Face {
-        opcode: Opcode::MUL,
-        size: Size::None,
+    let face = Face {
         width: answer::width_of(byte),
         op0: numbers::immediate_name(byte),
-        op1: Operand::A1,
         marked: true,
+        ..NAMELESS
     };
     if unsigned {
-        let face = Face {
+        let mulu = Face {
             opcode: Opcode::MULU,
             size: answer::size_of(byte),
             op1: Operand::A0,
-            ..signed
+            ..face
         };
-        return Ok(face.with(s));
+        return Ok(mulu.with(s));
     }
-    Ok(signed.with(s))
+    let mul = Face {
+        opcode: Opcode::MUL,
+        op1: Operand::A1,
+        ..face
+    };
+    Ok(mul.with(s))
 }
 
 const OPCODES: [Opcode; 16] = [
@@ -103,7 +105,7 @@ fn to_E(byte: bool, decimal: bool, n: u8) -> Operand
 }
 
 // h = E, by n.
-#[tactic(auto, using(crate::proofs::Onto::steps, crate::proofs::Table7C7D::tables_E), unfolding(rows::specs::Run::run_row, rows::specs::Rows::row, crate::specs::steps::Shared::table_E))]
+#[tactic(auto, using(crate::proofs::RowSteps::steps, crate::proofs::Table7C7D::tables_E), unfolding(rows::specs::Run::run_row, rows::specs::Rows::row, crate::specs::steps::Shared::table_E))]
 pub fn row_E(bs: &[u8], byte: bool, b: u8) -> Decoded
     ensures { answer_of result ≡ run_row (row_E (width_of byte) (b % 16)) bs.now }
 {
@@ -114,24 +116,27 @@ pub fn row_E(bs: &[u8], byte: bool, b: u8) -> Decoded
         opcode: OPCODES[n as usize],
         size: size_E(byte, decimal),
         width: answer::width_of(byte),
-        op0: from_E(byte, decimal),
         op1: to_E(byte, decimal, n),
-        marked: false,
+        ..NAMELESS
     };
     // an immediate is operand 0
     if set::has(0xF80F, n) {
         let s = numbers::immediate(bs, byte, BEGIN)?;
-        let given = Face {
+        let immediate = Face {
             op0: numbers::immediate_name(byte),
             ..face
         };
-        return Ok(given.with(s));
+        return Ok(immediate.with(s));
     }
-    Ok(face.with(BEGIN))
+    let alone = Face {
+        op0: from_E(byte, decimal),
+        ..face
+    };
+    Ok(alone.with(BEGIN))
 }
 
 // LDCTX and STCTX: two bytes, then three.
-#[tactic(auto, using(crate::proofs::Onto::steps, crate::proofs::Onto::second_read), unfolding(rows::specs::Run::run_row, rows::specs::Rows::row))]
+#[tactic(auto, using(crate::proofs::RowSteps::steps, crate::proofs::RowSteps::second_read), unfolding(rows::specs::Run::run_row, rows::specs::Rows::row))]
 pub fn load_context(bs: &[u8], byte: bool, opcode: Opcode) -> Decoded
     ensures { answer_of result ≡ run_row (context opcode (width_of byte)) bs.now }
 {
