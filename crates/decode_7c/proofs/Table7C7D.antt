@@ -14,13 +14,3 @@ use Rattle.decode_7c.specs.steps.Shared.{mul_by, table_E}
 pub tables_E : (w : Width) (n : ℕ) → n < 16 → row_E w n ≡ table_E w n
 unfolding row row_E table_E
 tables_E w = agree (row_E w) (table_E w) 16 refl
-
-pub unsigned : (byte : Bool) (n : ℕ) (bs : List ℕ) → run_row (mul_by true (width_of byte) n) bs ≡ run_row (mulu (width_of byte) n) bs
-unfolding run run_row row read_disp
-unsigned true n bs = refl
-unsigned false n bs = refl
-
-pub signed : (byte : Bool) (n : ℕ) (bs : List ℕ) → run_row (mul_by false (width_of byte) n) bs ≡ run_row (mul (width_of byte) n) bs
-unfolding run run_row row read_disp
-signed true n bs = refl
-signed false n bs = refl

@@ -14,10 +14,6 @@ opcode_J h = pick (eqb (h % 2) 0) JMPI JSRI
 unfoldable pub jump_by : ℕ → ℕ → Row
 jump_by h n = star_if (leb 2 h) (indirect (opcode_J h) n)
 
--- three bits with their sign, in 32
-abbrev pub signed3 : ℕ → ℕ
-signed3 n = pick (ltb n 4) n (0xFFFFFFF8 + n)
-
 -- the codes that name no condition
 abbrev pub no_condition : ℕ → Bool
 no_condition = holds 0x8800
