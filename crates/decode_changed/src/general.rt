@@ -6,6 +6,7 @@ ghost use Rattle.readers.specs.steps.Width.{width_of};
 ghost use Rattle.by_manual.specs.Changed.{to_stack, alone, ldc, name_JW, word_jump};
 ghost use Rattle.decode_changed.specs.steps.Rows.{alone_opcode, jump_opcode, mul_opcode, mul_size, mul_at};
 
+use crate::BLANK;
 use readers::answer::{Decoded, Face};
 use readers::{answer, control, general, long, mul, numbers};
 use record::refusal::Refusal;
@@ -15,15 +16,16 @@ use record::{Opcode, Operand, Size, Width};
 pub fn to_stack(bs: &[u8], byte: bool, b: u8) -> Decoded
     ensures { answer_of result ≡ run_row (to_stack (width_of byte) (b % 16)) bs.now }
 {
+    let source = general::general_name(byte, b);
     let s = general::general(bs, answer::BEGIN, b % 16)?;
     let t = numbers::disp_byte(bs, s)?;
     let face = Face {
         opcode: Opcode::MOV,
         size: answer::size_of(byte),
         width: answer::width_of(byte),
-        op0: general::general_name(byte, b),
+        op0: source,
         op1: Operand::Disp8_SP,
-        marked: false,
+        ..BLANK
     };
     Ok(face.with(t))
 }
@@ -42,14 +44,14 @@ fn alone_opcode(h: u8) -> Opcode
 pub fn alone(bs: &[u8], byte: bool, b: u8) -> Decoded
     ensures { answer_of result ≡ run_row (alone (alone_opcode (b / 16)) (width_of byte) (b % 16)) bs.now }
 {
+    let name = general::general_name(byte, b);
     let s = general::general(bs, answer::BEGIN, b % 16)?;
     let face = Face {
         opcode: alone_opcode(b / 16),
         size: answer::size_of(byte),
         width: answer::width_of(byte),
-        op0: general::general_name(byte, b),
-        op1: Operand::Nothing,
-        marked: false,
+        op0: name,
+        ..BLANK
     };
     Ok(face.with(s))
 }
@@ -64,11 +66,10 @@ pub fn load_control(bs: &[u8], b: u8) -> Decoded
     }
     let face = Face {
         opcode: Opcode::LDC,
-        size: Size::None,
         width: Width::B,
         op0: general::general_name(false, b),
         op1: control::control_name(b / 16),
-        marked: false,
+        ..BLANK
     };
     Ok(face.with(s))
 }
@@ -90,6 +91,7 @@ fn mul_size(byte: bool, h: u8) -> Size
 }
 
 // 7C/7D 4n MULU, 5n MUL: G(n) is judged and read, then the immediate.
+#[tactic(auto, unfolding(rows::specs::Run::run_row, rows::specs::Run::run, rows::specs::Rows::row))]
 pub fn mul_immediate(bs: &[u8], byte: bool, b: u8) -> Decoded
     ensures { answer_of result ≡ run_row (mul_at (width_of byte) (b / 16) (b % 16)) bs.now }
 {
@@ -104,7 +106,7 @@ pub fn mul_immediate(bs: &[u8], byte: bool, b: u8) -> Decoded
         width: answer::width_of(byte),
         op0: numbers::immediate_name(byte),
         op1: general::general_name(byte, b),
-        marked: false,
+        ..BLANK
     };
     Ok(face.with(t))
 }
@@ -135,8 +137,7 @@ pub(crate) fn word_jump(bs: &[u8], b: u8) -> Decoded
         size: Size::W,
         width: Width::W,
         op0: word_name(b),
-        op1: Operand::Nothing,
-        marked: false,
+        ..BLANK
     };
     Ok(face.with(s))
 }

@@ -11,7 +11,18 @@ ghost use Rattle.record.specs.Answer.{answer_of};
 ghost use Rattle.rows.specs.Run.{run_row};
 ghost use Rattle.decode_changed.specs.steps.Rows.{row_7D, row_of};
 
-use readers::answer::Decoded;
+use readers::answer::{Decoded, Face};
+use record::{Opcode, Operand, Size, Width};
+
+// What a row names that names nothing. No row of this crate is marked.
+const BLANK: Face = Face {
+    opcode: Opcode::NOP,
+    size: Size::None,
+    width: Width::None,
+    op0: Operand::Nothing,
+    op1: Operand::Nothing,
+    marked: false,
+};
 
 // 7D, by the high nibble: the word jumps, MULU and MUL, LDIPL, ADD, and conditions.
 pub fn decode_7D(bs: &[u8], b: u8) -> Decoded

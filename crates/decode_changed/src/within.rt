@@ -1,5 +1,6 @@
 // The rows that read nothing: their number, if they have one, is part of the code.
 #![tactic(auto, unfolding(rows::specs::Run::run_row, rows::specs::Run::run, rows::specs::Rows::row))]
+
 ghost use Rattle.std.specs.Prelude.{◌≡◌, List, ℕ, ◌/◌, ◌%◌, ◌<◌};
 ghost use Rattle.record.specs.Answer.{answer_of};
 ghost use Rattle.rows.specs.Rows.{flagged};
@@ -7,6 +8,7 @@ ghost use Rattle.rows.specs.Run.{run_row};
 ghost use Rattle.by_manual.specs.Changed.{add_SP, flag, ldipl};
 ghost use Rattle.decode_changed.specs.steps.Rows.{signed4, condition_opcode, flag_opcode};
 
+use crate::BLANK;
 use readers::answer;
 use readers::answer::{Decoded, Face};
 use record::refusal::Refusal;
@@ -22,11 +24,9 @@ pub(crate) fn load_level(b: u8) -> Decoded
     }
     let face = Face {
         opcode: Opcode::LDIPL,
-        size: Size::None,
         width: Width::W,
         op0: Operand::Imm8,
-        op1: Operand::Nothing,
-        marked: false,
+        ..BLANK
     };
     Ok(face.with(answer::begin(u32::from(n))))
 }
@@ -52,7 +52,7 @@ pub(crate) fn add_stack(b: u8) -> Decoded
         width: Width::W,
         op0: Operand::Imm8,
         op1: Operand::SP,
-        marked: false,
+        ..BLANK
     };
     Ok(face.with(answer::begin(sign_extend(b % 16))))
 }
@@ -73,11 +73,8 @@ pub(crate) fn condition(b: u8) -> Decoded
 {
     let face = Face {
         opcode: condition_opcode(b % 16),
-        size: Size::None,
         width: Width::W,
-        op0: Operand::Nothing,
-        op1: Operand::Nothing,
-        marked: false,
+        ..BLANK
     };
     Ok(face.with(answer::BEGIN))
 }
@@ -94,11 +91,8 @@ pub fn flag(b: u8) -> Decoded
 {
     let face = Face {
         opcode: flag_opcode(b % 16),
-        size: Size::None,
-        width: Width::None,
         op0: Operand::Imm4,
-        op1: Operand::Nothing,
-        marked: false,
+        ..BLANK
     };
     Ok(face.with(answer::begin(u32::from(b / 16))))
 }

@@ -14,4 +14,4 @@ returns-in_err-s c = ends _ _ _ _ (first _ _ c.general.ensures) _ _ c.in_err-s.w
 pub returns : goal.returns
 unfolding run_row row
 returns c = goes _ _ _ _ (first _ _ c.general.ensures) _ c.in_ok-s.was
-    (done _ refl _ c.with.ensures c.alone_opcode.ensures c.size_of.ensures c.width_of.ensures c.general_name.ensures refl refl)
+    (done _ refl _ c.with.ensures c.alone_opcode.ensures c.size_of.ensures c.width_of.ensures c.general_name-name.ensures refl refl)

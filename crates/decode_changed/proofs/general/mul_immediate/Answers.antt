@@ -1,18 +1,12 @@
 -- `decode_changed::general::mul_immediate` meets its contract.
 -- Assumes nothing.
 use Prim.Native.Nat.{◌%◌}
-use mathlib.Core.Path.{refl, sym, ap, ◌∙◌}
-use Rattle.record.specs.Answer.{answer_of}
-use Rattle.rows.specs.Row.{InvalidOperand}
+use mathlib.Core.Path.{refl, sym, ◌∙◌}
 use Rattle.rows.specs.Rows.{row}
 use Rattle.rows.specs.Run.{run_row}
-use Rattle.rows.proofs.Steps.{ends, goes, stops, done}
+use Rattle.rows.proofs.Steps.{ends, goes, done}
 use Rattle.readers.proofs.Told.{near, first, behind_general}
 use Rattle.decode_changed.proofs.general.mul_immediate.Goals as goal
-
-pub returns-then-bad_mul : goal.returns-then-bad_mul
-unfolding run_row row
-returns-then-bad_mul c = rw (sym c.bad_mul.ensures ∙ c.if-bad_mul.true) (stops InvalidOperand _ _ _ _ (ap answer_of c.refuse.ensures))
 
 pub returns-in_err-s : goal.returns-in_err-s
 unfolding run_row row

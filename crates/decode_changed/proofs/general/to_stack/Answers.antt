@@ -27,4 +27,4 @@ returns c =
     let source = c.in_ok-s.was in
     goes _ _ _ _ (first _ _ c.general.ensures) _ source
     (goes _ _ _ _ (near _ _ _ (behind_general (c.args.b % 16) c.args.bs.now c.general.ensures source) c.disp_byte.ensures) _ c.in_ok-t.was
-    (done _ refl _ c.with.ensures refl c.size_of.ensures c.width_of.ensures c.general_name.ensures refl refl))
+    (done _ refl _ c.with.ensures refl c.size_of.ensures c.width_of.ensures c.general_name-source.ensures refl refl))
