@@ -1,3 +1,5 @@
+#![tactic(auto, using(readers::proofs::RowSteps::steps, readers::proofs::RowSteps::second_behind_general, readers::proofs::Nibble::named_high), unfolding(rows::specs::Run::run_row, rows::specs::Rows::row, crate::specs::steps::Op76::unary76, crate::specs::steps::Op76::both76, crate::specs::steps::Op76::immediate76))]
+
 ghost use Rattle.std.specs.Prelude.{◌≡◌, eqb, ◌/◌, ◌%◌};
 ghost use Rattle.laws.specs.Choice.{pick};
 ghost use Rattle.record.specs.declared.Size.TheVariants.{None};

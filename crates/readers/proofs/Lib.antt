@@ -1,5 +1,5 @@
 pub mod Told
-pub mod Finish
 pub mod Names
 pub mod Nibble
 pub mod Found
+pub mod RowSteps

@@ -3,7 +3,7 @@ use native.Mathlib.Omega.{arith}
 use borrow.Author.Tests.{lt-ltb, le-ltb}
 use Rattle.rows.specs.Run.{run_row}
 use Rattle.rows.specs.Rows.{row}
-use Rattle.decode_7c.proofs.RowSteps.{steps}
+use Rattle.readers.proofs.RowSteps.{steps}
 use Rattle.decode_7c.specs.steps.Op7C.{nibble}
 use Rattle.decode_7c.proofs.op7C.move_nibble.Goals as goal
 use Rattle.decode_7c.proofs.op7C.move_nibble.Goals.{then-h-lt4, else-h-lt4}

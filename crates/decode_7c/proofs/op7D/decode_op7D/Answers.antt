@@ -3,7 +3,7 @@ use Prim.Native.Nat.{◌/◌}
 use native.Mathlib.Omega.{arith}
 use Rattle.rows.specs.Run.{run_row}
 use Rattle.rows.specs.Rows.{row}
-use Rattle.decode_7c.proofs.RowSteps.{steps}
+use Rattle.readers.proofs.RowSteps.{steps}
 use Rattle.decode_7c.proofs.Table7D.{vacant}
 use Rattle.decode_7c.proofs.op7D.decode_op7D.Goals as goal
 

@@ -3,7 +3,7 @@ use native.Mathlib.Omega.{arith}
 use borrow.Author.Tests.{le-ltb}
 use Rattle.rows.specs.Run.{run_row}
 use Rattle.rows.specs.Rows.{row}
-use Rattle.decode_7c.proofs.RowSteps.{steps}
+use Rattle.readers.proofs.RowSteps.{steps}
 use Rattle.decode_7c.proofs.op7D.push_address.Goals as goal
 
 pub returns : goal.returns

@@ -2,7 +2,7 @@
 use native.Mathlib.Omega.{arith}
 use Rattle.rows.specs.Run.{run_row}
 use Rattle.rows.specs.Rows.{row}
-use Rattle.decode_7c.proofs.RowSteps.{steps}
+use Rattle.readers.proofs.RowSteps.{steps}
 use Rattle.decode_7c.proofs.opEB.control_alone.Goals as goal
 
 pub returns : goal.returns

@@ -12,9 +12,10 @@ use Rattle.record.specs.declared.Record.{Record}
 use Rattle.record.specs.declared.Seen.{Seen}
 use Rattle.record.specs.declared.refusal.Refused.{Refused}
 use Rattle.rows.specs.Row.{Num, disp, Refusal, refusal_no, Read, num, stop, Face}
+use Rattle.rows.specs.Codes.{size_G}
 use Rattle.rows.specs.Run.{reading, read_disp, and_then, accepted_by, begun, refusal, run}
 use Rattle.readers.specs.steps.Told.{found_in}
-use Rattle.readers.proofs.Told.{near, first, second}
+use Rattle.readers.proofs.Told.{near, first, second, behind_general}
 
 -- what a read's result makes of a row
 abbrev pub onto : List Read → List ℕ → Face → Result Seen Refused → Answer
@@ -34,6 +35,12 @@ pub second_read : (k : Num) (rs : List Read) (bs : List ℕ) (f : Face) (s : See
     → run (num k ∷ rs) bs f s ≡ onto rs bs f (found_in k bs s)
 unfolding run
 second_read k rs bs f s e = as_result rs bs f (reading k bs s) ∙ ap (onto rs bs f) (sym (near k bs s (second 2 bs (omega arith) refl e) refl))
+
+-- the same behind G's displacement
+pub second_behind_general : (c : ℕ) (k : Num) (rs : List Read) (bs : List ℕ) (f : Face) (s : Seen) → found_in (disp (size_G c)) bs (begun 0) ≡ Ok s
+    → run (num k ∷ rs) bs f s ≡ onto rs bs f (found_in k bs s)
+unfolding run
+second_behind_general c k rs bs f s e = as_result rs bs f (reading k bs s) ∙ ap (onto rs bs f) (sym (near k bs s (behind_general c bs refl e) refl))
 
 pub last : (bs : List ℕ) (f : Face) (s : Seen) → run [] bs f s ≡ accepted_by f s
 unfolding run
