@@ -1,6 +1,6 @@
 // The groups of many small rows, a file each: what stands behind a first byte, by the second byte b.
 
-#![tactic(auto)]
+#![tactic(auto, using(crate::proofs::RowSteps::steps), unfolding(rows::specs::Run::run_row, rows::specs::Rows::row))]
 
 pub mod op7C;
 pub mod op7D;

@@ -1,11 +1,20 @@
-ghost use Rattle.std.specs.Prelude.{◌≡◌, ◌/◌, ◌%◌, ◌<◌};
+ghost use Rattle.std.specs.Prelude.{◌≡◌, ◌/◌, ◌%◌};
+ghost use Rattle.record.specs.Answer.{answer_of};
 ghost use Rattle.rows.specs.Rows.{exts, exts_C, row_7C, row_7CF};
 ghost use Rattle.rows.specs.Run.{run_row};
 ghost use Rattle.decode_7c.specs.steps.Op7C.{nibble_mark, nibble};
 
 use crate::shared;
-use readers::{answer, general, long, numbers, set};
-use record::{Answer, Opcode, Operand, Size, Width, refusal};
+use readers::answer::{self, BEGIN, Decoded, Face};
+use readers::{general, long, numbers, set};
+use record::refusal::Refusal;
+use record::{Opcode, Operand, Size, Width};
+
+// The rows of 7C are at width B, those of 7D at W.
+const AT_B: Face = Face {
+    width: Width::B,
+    ..shared::NAMELESS
+};
 
 const MOVES: [Opcode; 4] = [Opcode::MOVLL, Opcode::MOVLH, Opcode::MOVHL, Opcode::MOVHH];
 
@@ -13,134 +22,123 @@ const MOVES: [Opcode; 4] = [Opcode::MOVLL, Opcode::MOVLH, Opcode::MOVHL, Opcode:
 const MIXED: [bool; 4] = [false, true, true, false];
 
 // where it gives the code a meaning: not with R0L, A0, A1.
-fn nibble_mark(h: u8, n: u8) -> bool
-    requires { n < 16 }
-    ensures { result ≡ nibble_mark h n }
+#[tactic(auto, using(crate::proofs::Table7C::meant), unfolding(rows::specs::Run::run_row, rows::specs::Rows::row))]
+fn nibble_mark(b: u8) -> bool
+    ensures { result ≡ nibble_mark (b / 16) (b % 16) }
 {
-    let meant = set::has(0xFFCE, n);
-    MIXED[(h % 4) as usize] & meant
+    let meant = set::has(0xFFCE, b % 16);
+    MIXED[(b / 16 % 4) as usize] & meant
 }
 
 // MOVLL and the like: from G(n) to R0L below h = 8, else from R0L to G(n).
-fn move_nibble(bs: &[u8], b: u8) -> Answer
-    ensures { result ≡ run_row (nibble (b / 16) (b % 16)) bs.now }
+#[tactic(auto, using(crate::proofs::RowSteps::steps), unfolding(rows::specs::Run::run_row, rows::specs::Rows::row, crate::specs::steps::Op7C::nibble))]
+fn move_nibble(bs: &[u8], b: u8) -> Decoded
+    ensures { answer_of result ≡ run_row (nibble (b / 16) (b % 16)) bs.now }
 {
     let h = b / 16;
+    let s = general::general(bs, BEGIN, b % 16)?;
     let name = general::general_name(true, b);
-    let o = MOVES[(h % 4) as usize];
-    let m = nibble_mark(h, b % 16);
-    let got = general::general(bs, answer::BEGIN, b % 16);
-    if h < 4 {
-        return answer::finish(bs, got, o, Size::None, Width::B, name, Operand::R0L, m);
-    }
-    answer::finish(bs, got, o, Size::None, Width::B, Operand::R0L, name, m)
+    let (op0, op1) = if h < 4 {
+        (name, Operand::R0L)
+    } else {
+        (Operand::R0L, name)
+    };
+    let face = Face {
+        opcode: MOVES[(h % 4) as usize],
+        op0,
+        op1,
+        marked: nibble_mark(b),
+        ..AT_B
+    };
+    Ok(face.with(s))
 }
 
 // EXTS.B has no R0H, R1H, A0, A1.
-fn extend_byte(bs: &[u8], b: u8) -> Answer
-    ensures { result ≡ run_row (exts (b % 16)) bs.now }
+#[tactic(auto, using(crate::proofs::RowSteps::steps, crate::proofs::Table7C::no_exts_lem), unfolding(rows::specs::Run::run_row, rows::specs::Rows::row))]
+fn extend_byte(bs: &[u8], b: u8) -> Decoded
+    ensures { answer_of result ≡ run_row (exts (b % 16)) bs.now }
 {
-    let n = b % 16;
     // 1, 3, 4 and 5
-    if set::has(0x3A, n) {
-        return answer::refuse(refusal::INVALID_OPERAND, 2);
+    if set::has(0x3A, b % 16) {
+        return answer::refuse(Refusal::InvalidOperand, 2);
     }
-    let name = general::general_name(true, b);
-    let got = general::general(bs, answer::BEGIN, b % 16);
-    answer::finish(
-        bs,
-        got,
-        Opcode::EXTS,
-        Size::None,
-        Width::B,
-        name,
-        Operand::Nothing,
-        false,
-    )
+    let s = general::general(bs, BEGIN, b % 16)?;
+    let face = Face {
+        opcode: Opcode::EXTS,
+        op0: general::general_name(true, b),
+        ..AT_B
+    };
+    Ok(face.with(s))
 }
 
 // h = C: register pairs, then G.
-fn extend_pair(bs: &[u8], b: u8) -> Answer
-    ensures { result ≡ run_row (exts_C (b % 16)) bs.now }
+fn extend_pair(bs: &[u8], b: u8) -> Decoded
+    ensures { answer_of result ≡ run_row (exts_C (b % 16)) bs.now }
 {
     if long::long_refused(b % 16) {
-        return answer::refuse(refusal::INVALID_OPERAND, 2);
+        return answer::refuse(Refusal::InvalidOperand, 2);
     }
-    let name = long::pair_name(b);
-    let got = general::general(bs, answer::BEGIN, b % 16);
-    answer::finish(
-        bs,
-        got,
-        Opcode::EXTS,
-        Size::None,
-        Width::B,
-        name,
-        Operand::Nothing,
-        true,
-    )
+    let s = general::general(bs, BEGIN, b % 16)?;
+    let face = Face {
+        opcode: Opcode::EXTS,
+        op0: long::pair_name(b),
+        marked: true,
+        ..AT_B
+    };
+    Ok(face.with(s))
 }
 
 // ENTER: one byte.
-fn enter(bs: &[u8]) -> Answer
-    ensures { result ≡ run_row (row_7CF 2) bs.now }
+#[tactic(auto, using(crate::proofs::RowSteps::steps), unfolding(rows::specs::Run::run_row, rows::specs::Rows::row, rows::specs::Rows::row_7CF))]
+fn enter(bs: &[u8]) -> Decoded
+    ensures { answer_of result ≡ run_row (row_7CF 2) bs.now }
 {
-    let got = numbers::imm_byte(bs, answer::BEGIN);
-    answer::finish(
-        bs,
-        got,
-        Opcode::ENTER,
-        Size::None,
-        Width::B,
-        Operand::Imm8,
-        Operand::Nothing,
-        false,
-    )
+    let s = numbers::imm_byte(bs, BEGIN)?;
+    let face = Face {
+        opcode: Opcode::ENTER,
+        op0: Operand::Imm8,
+        ..AT_B
+    };
+    Ok(face.with(s))
 }
 
 // h = F, by n.
-fn row_F(bs: &[u8], b: u8) -> Answer
-    ensures { result ≡ run_row (row_7CF (b % 16)) bs.now }
+#[tactic(auto, using(crate::proofs::RowSteps::steps), unfolding(rows::specs::Run::run_row, rows::specs::Rows::row, rows::specs::Rows::row_7CF))]
+fn row_F(bs: &[u8], b: u8) -> Decoded
+    ensures { answer_of result ≡ run_row (row_7CF (b % 16)) bs.now }
 {
     let n = b % 16;
-    match n {
-        0 => shared::load_context(bs, true, Opcode::LDCTX),
-        1 => answer::accept(
-            Opcode::RMPA,
-            Size::B,
-            Width::B,
-            Operand::Nothing,
-            Operand::Nothing,
-            false,
-            answer::BEGIN,
-        ),
-        2 => enter(bs),
-        3 => answer::accept(
-            Opcode::EXTS,
-            Size::None,
-            Width::B,
-            Operand::R0,
-            Operand::Nothing,
-            false,
-            answer::BEGIN,
-        ),
-        _ => answer::refuse(refusal::INVALID_OPCODE, 2),
-    }
+    let face = match n {
+        0 => return shared::load_context(bs, true, Opcode::LDCTX),
+        1 => Face {
+            opcode: Opcode::RMPA,
+            size: Size::B,
+            ..AT_B
+        },
+        2 => return enter(bs),
+        3 => Face {
+            opcode: Opcode::EXTS,
+            op0: Operand::R0,
+            ..AT_B
+        },
+        _ => return answer::refuse(Refusal::InvalidOpcode, 2),
+    };
+    Ok(face.with(BEGIN))
 }
 
-pub fn decode_op7C(bs: &[u8], b: u8) -> Answer
-    ensures { result ≡ run_row (row_7C (b / 16) (b % 16)) bs.now }
+#[tactic(auto, using(crate::proofs::RowSteps::steps), unfolding(rows::specs::Run::run_row, rows::specs::Rows::row, rows::specs::Rows::row_7C))]
+pub fn decode_op7C(bs: &[u8], b: u8) -> Decoded
+    ensures { answer_of result ≡ run_row (row_7C (b / 16) (b % 16)) bs.now }
 {
-    let h = b / 16;
-    if h % 8 < 4 {
-        return move_nibble(bs, b);
-    }
-    match h {
+    match b / 16 {
         4 => shared::mul_immediate(bs, true, true, b),
         5 => shared::mul_immediate(bs, true, false, b),
         6 => extend_byte(bs, b),
+        7 | 13 => answer::refuse(Refusal::InvalidOpcode, 2),
         12 => extend_pair(bs, b),
         14 => shared::row_E(bs, true, b),
         15 => row_F(bs, b),
-        _ => answer::refuse(refusal::INVALID_OPCODE, 2),
+        // 0 to 3 and 8 to 11
+        _ => move_nibble(bs, b),
     }
 }

@@ -1,13 +1,20 @@
-ghost use Rattle.std.specs.Prelude.{◌≡◌, List, ℕ, ◌/◌, ◌%◌, ◌<◌, false};
+ghost use Rattle.std.specs.Prelude.{◌≡◌, List, ℕ, ◌/◌, ◌%◌};
+ghost use Rattle.record.specs.Answer.{answer_of};
 ghost use Rattle.rows.specs.Rows.{add_SP, ldipl, pusha, row_7D, row_7DC, row_7DD, row_7DF};
-ghost use Rattle.record.specs.declared.Width.TheVariants.{W};
-ghost use Rattle.record.specs.declared.Operand.TheVariants.{Nothing};
-ghost use Rattle.rows.specs.Run.{accepted, begun, run_row};
-ghost use Rattle.decode_7c.specs.steps.Op7D.{opcode_J, jump_by, signed3, no_condition};
+ghost use Rattle.rows.specs.Run.{run_row};
+ghost use Rattle.decode_7c.specs.steps.Op7D.{opcode_J, jump_by, no_condition};
 
 use crate::shared;
-use readers::{answer, general, long, numbers, set};
-use record::{Answer, Opcode, Operand, Size, Width, refusal};
+use readers::answer::{self, BEGIN, Decoded, Face};
+use readers::{general, long, numbers, set};
+use record::refusal::Refusal;
+use record::{Opcode, Operand, Size, Width};
+
+// The rows of 7D are at width W, those of 7C at B.
+const AT_W: Face = Face {
+    width: Width::W,
+    ..shared::NAMELESS
+};
 
 fn jump_opcode(h: u8) -> Opcode
     ensures { result ≡ opcode_J h }
@@ -20,93 +27,76 @@ fn jump_opcode(h: u8) -> Opcode
 }
 
 // JMPI and JSRI, marked from h = 2 on.
-fn indirect(bs: &[u8], b: u8) -> Answer
-    ensures { result ≡ run_row (jump_by (b / 16) (b % 16)) bs.now }
+#[tactic(auto, using(crate::proofs::RowSteps::steps), unfolding(rows::specs::Run::run_row, rows::specs::Rows::row, crate::specs::steps::Op7D::jump_by))]
+fn indirect(bs: &[u8], b: u8) -> Decoded
+    ensures { answer_of result ≡ run_row (jump_by (b / 16) (b % 16)) bs.now }
 {
     if long::long_refused(b % 16) {
-        return answer::refuse(refusal::INVALID_OPERAND, 2);
+        return answer::refuse(Refusal::InvalidOperand, 2);
     }
+    let s = long::long(bs, BEGIN, b % 16)?;
     let h = b / 16;
-    let name = long::long_name(b);
-    let o = jump_opcode(h);
-    let got = long::long(bs, answer::BEGIN, b % 16);
-    answer::finish(
-        bs,
-        got,
-        o,
-        Size::None,
-        Width::W,
-        name,
-        Operand::Nothing,
-        2 <= h,
-    )
+    let face = Face {
+        opcode: jump_opcode(h),
+        op0: long::long_name(b),
+        marked: 2 <= h,
+        ..AT_W
+    };
+    Ok(face.with(s))
 }
 
 // PUSHA has no code below 8.
-fn push_address(bs: &[u8], b: u8) -> Answer
-    ensures { result ≡ run_row (pusha (b % 16)) bs.now }
+fn push_address(bs: &[u8], b: u8) -> Decoded
+    ensures { answer_of result ≡ run_row (pusha (b % 16)) bs.now }
 {
     let n = b % 16;
     if n < 8 {
-        return answer::refuse(refusal::INVALID_OPERAND, 2);
+        return answer::refuse(Refusal::InvalidOperand, 2);
     }
-    let name = general::general_name(false, b);
-    let got = general::general(bs, answer::BEGIN, n);
-    answer::finish(
-        bs,
-        got,
-        Opcode::PUSHA,
-        Size::None,
-        Width::W,
-        name,
-        Operand::Nothing,
-        false,
-    )
+    let s = general::general(bs, BEGIN, n)?;
+    let face = Face {
+        opcode: Opcode::PUSHA,
+        op0: general::general_name(false, b),
+        ..AT_W
+    };
+    Ok(face.with(s))
 }
 
-// Three bits, with their sign.
-fn sign_extend(n: u8) -> u32
-    requires { n < 8 }
-    ensures { result ≡ signed3 n }
-{
-    if n < 4 {
-        return n as u32;
-    }
-    0xFFFF_FFF8 + (n as u32)
-}
-
-// LDIPL: the number is part of the code.
-fn load_level(b: u8) -> Answer
-    ensures { (bs : List ℕ) → result ≡ run_row (ldipl (b % 16)) bs }
+// LDIPL: the number is part of the code, three bits with their sign.
+fn load_level(b: u8) -> Decoded
+    ensures { (bs : List ℕ) → answer_of result ≡ run_row (ldipl (b % 16)) bs }
 {
     let n = b % 16;
     if 8 <= n {
-        return answer::refuse(refusal::INVALID_OPERAND, 2);
+        return answer::refuse(Refusal::InvalidOperand, 2);
     }
-    answer::accept(
-        Opcode::LDIPL,
-        Size::None,
-        Width::W,
-        Operand::Imm8,
-        Operand::Nothing,
-        true,
-        answer::begin(sign_extend(n)),
-    )
+    let number = if n < 4 {
+        n as u32
+    } else {
+        0xFFFF_FFF8 + (n as u32)
+    };
+    let face = Face {
+        opcode: Opcode::LDIPL,
+        op0: Operand::Imm8,
+        marked: true,
+        ..AT_W
+    };
+    Ok(face.with(answer::begin(number)))
 }
 
 // ADD Imm8,SP: the number is part of the code.
-fn add_stack(b: u8) -> Answer
-    ensures { (bs : List ℕ) → result ≡ run_row (add_SP (b % 16)) bs }
+fn add_stack(b: u8) -> Decoded
+    ensures { (bs : List ℕ) → answer_of result ≡ run_row (add_SP (b % 16)) bs }
 {
-    answer::accept(
-        Opcode::ADD,
-        Size::W,
-        Width::W,
-        Operand::Imm8,
-        Operand::SP,
-        true,
-        answer::begin((b % 16 % 8) as u32),
-    )
+    let face = Face {
+        opcode: Opcode::ADD,
+        size: Size::W,
+        width: Width::W,
+        op0: Operand::Imm8,
+        op1: Operand::SP,
+        marked: true,
+    };
+    Ok(face.with(answer::begin((b % 16 % 8) as u32)))
 }
 
 // From code 8 on; NOP stands at the two codes that are refused.
@@ -123,35 +113,27 @@ const JUMPS: [Opcode; 8] = [
 
 // B and F name no condition.
 fn no_condition(n: u8) -> bool
-    requires { n < 16 }
     ensures { result ≡ no_condition n }
 {
     set::has(0x8800, n)
 }
 
 // Jumps on a condition: one byte.
-fn jump(bs: &[u8], b: u8) -> Answer
-    ensures { result ≡ run_row (row_7DC (b % 16)) bs.now }
+#[tactic(auto, using(crate::proofs::RowSteps::steps, crate::proofs::Table7D::conditional_jumps), unfolding(rows::specs::Run::run_row, rows::specs::Rows::row))]
+fn jump(bs: &[u8], b: u8) -> Decoded
+    ensures { answer_of result ≡ run_row (row_7DC (b % 16)) bs.now }
 {
     let n = b % 16;
-    if n < 8 {
-        return answer::refuse(refusal::INVALID_OPCODE, 2);
+    if n < 8 || no_condition(n) {
+        return answer::refuse(Refusal::InvalidOpcode, 2);
     }
-    if no_condition(n) {
-        return answer::refuse(refusal::INVALID_OPCODE, 2);
-    }
-    let o = JUMPS[(n % 8) as usize];
-    let got = numbers::imm_byte(bs, answer::BEGIN);
-    answer::finish(
-        bs,
-        got,
-        o,
-        Size::None,
-        Width::W,
-        Operand::Disp8,
-        Operand::Nothing,
-        false,
-    )
+    let s = numbers::imm_byte(bs, BEGIN)?;
+    let face = Face {
+        opcode: JUMPS[(n % 8) as usize],
+        op0: Operand::Disp8,
+        ..AT_W
+    };
+    Ok(face.with(s))
 }
 
 const CONDITIONS: [Opcode; 16] = [
@@ -174,65 +156,56 @@ const CONDITIONS: [Opcode; 16] = [
 ];
 
 // A condition by n; GE, NO and LT are marked.
-fn conditional(b: u8) -> Answer
-    ensures { (bs : List ℕ) → result ≡ run_row (row_7DD (b % 16)) bs }
+#[tactic(auto, using(crate::proofs::RowSteps::steps, crate::proofs::Table7D::conditions), unfolding(rows::specs::Run::run_row, rows::specs::Rows::row))]
+fn conditional(b: u8) -> Decoded
+    ensures { (bs : List ℕ) → answer_of result ≡ run_row (row_7DD (b % 16)) bs }
 {
     let n = b % 16;
     if no_condition(n) {
-        return answer::refuse(refusal::INVALID_OPCODE, 2);
+        return answer::refuse(Refusal::InvalidOpcode, 2);
     }
-    let o = CONDITIONS[n as usize];
-    let m = set::has(0x6400, n);
-    answer::accept(
-        o,
-        Size::None,
-        Width::W,
-        Operand::Nothing,
-        Operand::Nothing,
-        m,
-        answer::BEGIN,
-    )
-}
-
-// A row that names an opcode and nothing else.
-fn bare(o: Opcode, z: Size) -> Answer
-    ensures { result ≡ accepted o z W Nothing Nothing false (begun 0) }
-{
-    answer::accept(
-        o,
-        z,
-        Width::W,
-        Operand::Nothing,
-        Operand::Nothing,
-        false,
-        answer::BEGIN,
-    )
+    let face = Face {
+        opcode: CONDITIONS[n as usize],
+        marked: set::has(0x6400, n),
+        ..AT_W
+    };
+    Ok(face.with(BEGIN))
 }
 
 // h = F, by n.
-fn row_F(bs: &[u8], b: u8) -> Answer
-    ensures { result ≡ run_row (row_7DF (b % 16)) bs.now }
+#[tactic(auto, using(crate::proofs::RowSteps::steps), unfolding(rows::specs::Run::run_row, rows::specs::Rows::row, rows::specs::Rows::row_7DF))]
+fn row_F(bs: &[u8], b: u8) -> Decoded
+    ensures { answer_of result ≡ run_row (row_7DF (b % 16)) bs.now }
 {
     let n = b % 16;
-    match n {
-        0 => shared::load_context(bs, false, Opcode::STCTX),
-        1 => bare(Opcode::RMPA, Size::W),
-        2 => bare(Opcode::EXITD, Size::None),
-        3 => bare(Opcode::WAIT, Size::None),
-        _ => answer::refuse(refusal::INVALID_OPCODE, 2),
-    }
+    let face = match n {
+        0 => return shared::load_context(bs, false, Opcode::STCTX),
+        1 => Face {
+            opcode: Opcode::RMPA,
+            size: Size::W,
+            ..AT_W
+        },
+        2 => Face {
+            opcode: Opcode::EXITD,
+            ..AT_W
+        },
+        3 => Face {
+            opcode: Opcode::WAIT,
+            ..AT_W
+        },
+        _ => return answer::refuse(Refusal::InvalidOpcode, 2),
+    };
+    Ok(face.with(BEGIN))
 }
 
-pub fn decode_op7D(bs: &[u8], b: u8) -> Answer
-    ensures { result ≡ run_row (row_7D (b / 16) (b % 16)) bs.now }
+#[tactic(auto, using(crate::proofs::RowSteps::steps), unfolding(rows::specs::Run::run_row, rows::specs::Rows::row, rows::specs::Rows::row_7D, crate::specs::steps::Op7D::jump_by))]
+pub fn decode_op7D(bs: &[u8], b: u8) -> Decoded
+    ensures { answer_of result ≡ run_row (row_7D (b / 16) (b % 16)) bs.now }
 {
-    let h = b / 16;
-    if h < 4 {
-        return indirect(bs, b);
-    }
-    match h {
+    match b / 16 {
         4 => shared::mul_immediate(bs, false, true, b),
         5 => shared::mul_immediate(bs, false, false, b),
+        6 | 7 | 8 => answer::refuse(Refusal::InvalidOpcode, 2),
         9 => push_address(bs, b),
         10 => load_level(b),
         11 => add_stack(b),
@@ -240,6 +213,7 @@ pub fn decode_op7D(bs: &[u8], b: u8) -> Answer
         13 => conditional(b),
         14 => shared::row_E(bs, false, b),
         15 => row_F(bs, b),
-        _ => answer::refuse(refusal::INVALID_OPCODE, 2),
+        // below 4
+        _ => indirect(bs, b),
     }
 }

@@ -1,53 +1,48 @@
-ghost use Rattle.std.specs.Prelude.{◌≡◌, List, [], ℕ, ◌/◌, ◌%◌, ◌<◌};
-ghost use Rattle.record.specs.declared.Opcode.TheVariants.{NOP};
+ghost use Rattle.std.specs.Prelude.{◌≡◌, List, [], ℕ, ◌/◌, ◌%◌};
+ghost use Rattle.record.specs.Answer.{answer_of};
+ghost use Rattle.record.specs.declared.Operand.TheVariants.{Nothing};
 ghost use Rattle.record.specs.declared.Width.TheVariants as width;
 ghost use Rattle.rows.specs.Codes.{name_K, K};
-ghost use Rattle.record.specs.declared.Operand.TheVariants.{Nothing};
-ghost use Rattle.rows.specs.Rows.{bare, star, star_if, long_shift, shift_opcode, shift_pair, mova, row_EB_low, row_EB};
+ghost use Rattle.rows.specs.Rows.{bare, star_if, long_shift, shift_opcode, shift_pair, mova, row_EB_low, row_EB};
 ghost use Rattle.rows.specs.Run.{run_row};
 
-use readers::{answer, control, general, numbers};
-use record::{Answer, Opcode, Operand, Size, Width, refusal};
+use crate::shared::NAMELESS;
+use readers::answer::{self, BEGIN, Decoded, Face};
+use readers::{control, general, numbers};
+use record::refusal::Refusal;
+use record::{Opcode, Operand, Size, Width};
 
 // LDC Imm16: the control register is judged before the two bytes.
-fn load_control(bs: &[u8], h: u8) -> Answer
-    requires { h < 8 }
-    ensures { result ≡ run_row (row_EB_low h 0) bs.now }
+#[tactic(auto, using(crate::proofs::RowSteps::steps), unfolding(rows::specs::Run::run_row, rows::specs::Rows::row, rows::specs::Rows::row_EB_low))]
+fn load_control(bs: &[u8], b: u8) -> Decoded
+    ensures { answer_of result ≡ run_row (row_EB_low (b / 16 % 8) 0) bs.now }
 {
-    if h == 0 {
-        return answer::refuse(refusal::INVALID_OPERAND, 2);
+    if b / 16 % 8 == 0 {
+        return answer::refuse(Refusal::InvalidOperand, 2);
     }
-    let dest = control::control_name(h);
-    let got = numbers::imm_word(bs, answer::BEGIN);
-    answer::finish(
-        bs,
-        got,
-        Opcode::LDC,
-        Size::None,
-        Width::None,
-        Operand::Imm16,
-        dest,
-        false,
-    )
+    let s = numbers::imm_word(bs, BEGIN)?;
+    let face = Face {
+        opcode: Opcode::LDC,
+        op0: Operand::Imm16,
+        op1: control::control_name(b / 16),
+        ..NAMELESS
+    };
+    Ok(face.with(s))
 }
 
 // PUSHC and POPC.
-fn control_alone(o: Opcode, h: u8) -> Answer
-    requires { h < 8 }
-    ensures { (bs : List ℕ) → result ≡ run_row (bare o width.None (name_K h) Nothing (K h [])) bs }
+fn control_alone(opcode: Opcode, b: u8) -> Decoded
+    ensures { (bs : List ℕ) → answer_of result ≡ run_row (bare opcode width.None (name_K (b / 16 % 8)) Nothing (K (b / 16 % 8) [])) bs }
 {
-    if h == 0 {
-        return answer::refuse(refusal::INVALID_OPERAND, 2);
+    if b / 16 % 8 == 0 {
+        return answer::refuse(Refusal::InvalidOperand, 2);
     }
-    answer::accept(
-        o,
-        Size::None,
-        Width::None,
-        control::control_name(h),
-        Operand::Nothing,
-        false,
-        answer::BEGIN,
-    )
+    let face = Face {
+        opcode,
+        op0: control::control_name(b / 16),
+        ..NAMELESS
+    };
+    Ok(face.with(BEGIN))
 }
 
 // SHL.L, or SHA.L if h has bit 1.
@@ -73,79 +68,63 @@ fn shift_pair(h: u8) -> Operand
 }
 
 // The long shifts, by R1H or by the raw code n.
-fn shift_long(h: u8, by: Operand, number: u32, marked: bool) -> Answer
-    ensures { (bs : List ℕ) → result ≡ run_row (star_if marked (long_shift h by number)) bs }
+fn shift_long(h: u8, by: Operand, number: u32, marked: bool) -> Decoded
+    ensures { (bs : List ℕ) → answer_of result ≡ run_row (star_if marked (long_shift h by number)) bs }
 {
-    answer::accept(
-        shift_opcode(h),
-        Size::L,
-        Width::None,
-        by,
-        shift_pair(h),
+    let face = Face {
+        opcode: shift_opcode(h),
+        size: Size::L,
+        width: Width::None,
+        op0: by,
+        op1: shift_pair(h),
         marked,
-        answer::begin(number),
-    )
-}
-
-// FSET and FCLR, of which nothing is set.
-fn nothing_set() -> Answer
-    ensures { (bs : List ℕ) → result ≡ run_row (star (bare NOP width.None Nothing Nothing [])) bs }
-{
-    answer::accept(
-        Opcode::NOP,
-        Size::None,
-        Width::None,
-        Operand::Nothing,
-        Operand::Nothing,
-        true,
-        answer::BEGIN,
-    )
+    };
+    Ok(face.with(answer::begin(number)))
 }
 
 // MOVA: h is below 8, so that only G(n) reads; the names are those at W.
-fn move_address(bs: &[u8], b: u8) -> Answer
-    requires { b < 128 }
-    ensures { result ≡ run_row (mova (b / 16) (b % 16)) bs.now }
+fn move_address(bs: &[u8], b: u8) -> Decoded
+    ensures { answer_of result ≡ run_row (mova (b / 16 % 8) (b % 16)) bs.now }
 {
-    let h = b / 16;
-    let source = general::general_name(false, b);
-    let dest = general::general_name(false, h);
-    let got = general::general(bs, answer::BEGIN, b % 16);
-    answer::finish(
-        bs,
-        got,
-        Opcode::MOVA,
-        Size::None,
-        Width::None,
-        source,
-        dest,
-        6 <= h,
-    )
+    let s = general::general(bs, BEGIN, b % 16)?;
+    let h = b / 16 % 8;
+    let face = Face {
+        opcode: Opcode::MOVA,
+        op0: general::general_name(false, b),
+        op1: general::general_name(false, h),
+        marked: 6 <= h,
+        ..NAMELESS
+    };
+    Ok(face.with(s))
 }
 
 // h below 8, by n.
-fn row_low(bs: &[u8], b: u8) -> Answer
-    requires { b < 128 }
-    ensures { result ≡ run_row (row_EB_low (b / 16) (b % 16)) bs.now }
+#[tactic(auto, using(crate::proofs::RowSteps::steps), unfolding(rows::specs::Run::run_row, rows::specs::Rows::row, rows::specs::Rows::row_EB_low))]
+fn row_low(bs: &[u8], b: u8) -> Decoded
+    ensures { answer_of result ≡ run_row (row_EB_low (b / 16 % 8) (b % 16)) bs.now }
 {
-    let h = b / 16;
-    let n = b % 16;
-    if 8 <= n {
-        return move_address(bs, b);
-    }
-    match n {
-        0 => load_control(bs, h),
+    let h = b / 16 % 8;
+    match b % 16 {
+        0 => load_control(bs, b),
         1 => shift_long(h, Operand::R1H, 0, 4 <= h),
-        2 => control_alone(Opcode::PUSHC, h),
-        3 => control_alone(Opcode::POPC, h),
-        4 => nothing_set(),
-        5 => nothing_set(),
-        _ => answer::refuse(refusal::INVALID_OPERAND, 2),
+        2 => control_alone(Opcode::PUSHC, b),
+        3 => control_alone(Opcode::POPC, b),
+        // FSET and FCLR, of which nothing is set
+        4 | 5 => {
+            let face = Face {
+                marked: true,
+                ..NAMELESS
+            };
+            Ok(face.with(BEGIN))
+        }
+        6 | 7 => answer::refuse(Refusal::InvalidOperand, 2),
+        _ => move_address(bs, b),
     }
 }
 
-pub fn decode_opEB(bs: &[u8], b: u8) -> Answer
-    ensures { result ≡ run_row (row_EB (b / 16) (b % 16)) bs.now }
+#[tactic(auto, using(crate::proofs::RowSteps::steps), unfolding(rows::specs::Run::run_row, rows::specs::Rows::row, rows::specs::Rows::row_EB))]
+pub fn decode_opEB(bs: &[u8], b: u8) -> Decoded
+    ensures { answer_of result ≡ run_row (row_EB (b / 16) (b % 16)) bs.now }
 {
     if b < 0x80 {
         return row_low(bs, b);
@@ -153,13 +132,10 @@ pub fn decode_opEB(bs: &[u8], b: u8) -> Answer
     if b < 0xC0 {
         return shift_long(b / 16, Operand::Imm4, (b % 16) as u32, false);
     }
-    answer::accept(
-        Opcode::INT,
-        Size::None,
-        Width::None,
-        Operand::Imm8,
-        Operand::Nothing,
-        false,
-        answer::begin((b % 64) as u32),
-    )
+    let face = Face {
+        opcode: Opcode::INT,
+        op0: Operand::Imm8,
+        ..NAMELESS
+    };
+    Ok(face.with(answer::begin((b % 64) as u32)))
 }

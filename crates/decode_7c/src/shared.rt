@@ -1,28 +1,55 @@
 // What 7C and 7D have together: byte is true on 7C.
 ghost use Rattle.std.specs.Prelude.{◌≡◌, ◌%◌};
+ghost use Rattle.record.specs.Answer.{answer_of};
 ghost use Rattle.rows.specs.Rows.{context, row_E};
 ghost use Rattle.rows.specs.Run.{run_row};
 ghost use Rattle.readers.specs.steps.Width.{width_of};
 ghost use Rattle.decode_7c.specs.steps.Shared.{mul_by, size_E, from_E, to_E};
 
-use readers::{answer, mul, numbers, set};
-use record::{Answer, Got, Opcode, Operand, Size, refusal};
+use readers::answer::{self, BEGIN, Decoded, Face};
+use readers::{mul, numbers, set};
+use record::refusal::Refusal;
+use record::{Opcode, Operand, Size, Width};
+
+// A row that names nothing. Each row says what it has in place of this.
+pub const NAMELESS: Face = Face {
+    opcode: Opcode::NOP,
+    size: Size::None,
+    width: Width::None,
+    op0: Operand::Nothing,
+    op1: Operand::Nothing,
+    marked: false,
+};
 
 // MULU and MUL with an immediate: the destination is judged by n, and is A0 or A1 all the same.
-pub fn mul_immediate(bs: &[u8], byte: bool, unsigned: bool, b: u8) -> Answer
-    ensures { result ≡ run_row (mul_by unsigned (width_of byte) (b % 16)) bs.now }
+pub fn mul_immediate(bs: &[u8], byte: bool, unsigned: bool, b: u8) -> Decoded
+    ensures { answer_of result ≡ run_row (mul_by unsigned (width_of byte) (b % 16)) bs.now }
 {
     if mul::bad_mul(byte, b % 16) {
-        return answer::refuse(refusal::INVALID_OPERAND, 2);
+        return answer::refuse(Refusal::InvalidOperand, 2);
     }
-    let name = numbers::immediate_name(byte);
-    let got = numbers::immediate(bs, byte, answer::BEGIN);
-    let w = answer::width_of(byte);
+    let s = numbers::immediate(bs, byte, BEGIN)?;
+    let face = Face {
+        width: answer::width_of(byte),
+        op0: numbers::immediate_name(byte),
+        marked: true,
+        ..NAMELESS
+    };
     if unsigned {
-        let z = answer::size_of(byte);
-        return answer::finish(bs, got, Opcode::MULU, z, w, name, Operand::A0, true);
+        let mulu = Face {
+            opcode: Opcode::MULU,
+            size: answer::size_of(byte),
+            op1: Operand::A0,
+            ..face
+        };
+        return Ok(mulu.with(s));
     }
-    answer::finish(bs, got, Opcode::MUL, Size::None, w, name, Operand::A1, true)
+    let mul = Face {
+        opcode: Opcode::MUL,
+        op1: Operand::A1,
+        ..face
+    };
+    Ok(mul.with(s))
 }
 
 const OPCODES: [Opcode; 16] = [
@@ -58,70 +85,69 @@ fn size_E(byte: bool, decimal: bool) -> Size
 fn from_E(byte: bool, decimal: bool) -> Operand
     ensures { result ≡ from_E decimal (width_of byte) }
 {
-    if decimal {
-        if byte {
-            return Operand::R0H;
-        }
-        return Operand::R1;
+    match (decimal, byte) {
+        (true, true) => Operand::R0H,
+        (true, false) => Operand::R1,
+        (false, _) => Operand::Nothing,
     }
-    Operand::Nothing
 }
 
 // Operand 1; only ADD has SP.
 fn to_E(byte: bool, decimal: bool, n: u8) -> Operand
     ensures { result ≡ to_E decimal (width_of byte) n }
 {
-    if decimal {
-        if byte {
-            return Operand::R0L;
-        }
-        return Operand::R0;
+    match (decimal, byte) {
+        (true, true) => Operand::R0L,
+        (true, false) => Operand::R0,
+        (false, _) if n == 11 => Operand::SP,
+        (false, _) => Operand::Nothing,
     }
-    if n == 11 {
-        return Operand::SP;
-    }
-    Operand::Nothing
 }
 
 // h = E, by n.
-pub fn row_E(bs: &[u8], byte: bool, b: u8) -> Answer
-    ensures { result ≡ run_row (row_E (width_of byte) (b % 16)) bs.now }
+#[tactic(auto, using(crate::proofs::RowSteps::steps, crate::proofs::Table7C7D::tables_E), unfolding(rows::specs::Run::run_row, rows::specs::Rows::row, crate::specs::steps::Shared::table_E))]
+pub fn row_E(bs: &[u8], byte: bool, b: u8) -> Decoded
+    ensures { answer_of result ≡ run_row (row_E (width_of byte) (b % 16)) bs.now }
 {
     let n = b % 16;
-    let o = OPCODES[n as usize];
     // DADD and the like
     let decimal = 4 <= n % 8;
-    let z = size_E(byte, decimal);
-    let w = answer::width_of(byte);
-    let to = to_E(byte, decimal, n);
+    let face = Face {
+        opcode: OPCODES[n as usize],
+        size: size_E(byte, decimal),
+        width: answer::width_of(byte),
+        op1: to_E(byte, decimal, n),
+        ..NAMELESS
+    };
     // an immediate is operand 0
     if set::has(0xF80F, n) {
-        let name = numbers::immediate_name(byte);
-        let got = numbers::immediate(bs, byte, answer::BEGIN);
-        return answer::finish(bs, got, o, z, w, name, to, false);
+        let s = numbers::immediate(bs, byte, BEGIN)?;
+        let immediate = Face {
+            op0: numbers::immediate_name(byte),
+            ..face
+        };
+        return Ok(immediate.with(s));
     }
-    answer::accept(o, z, w, from_E(byte, decimal), to, false, answer::BEGIN)
+    let alone = Face {
+        op0: from_E(byte, decimal),
+        ..face
+    };
+    Ok(alone.with(BEGIN))
 }
 
 // LDCTX and STCTX: two bytes, then three.
-pub fn load_context(bs: &[u8], byte: bool, o: Opcode) -> Answer
-    ensures { result ≡ run_row (context o (width_of byte)) bs.now }
+#[tactic(auto, using(crate::proofs::RowSteps::steps, crate::proofs::RowSteps::second_read), unfolding(rows::specs::Run::run_row, rows::specs::Rows::row))]
+pub fn load_context(bs: &[u8], byte: bool, opcode: Opcode) -> Decoded
+    ensures { answer_of result ≡ run_row (context opcode (width_of byte)) bs.now }
 {
-    match numbers::disp_word(bs, answer::BEGIN) {
-        Got::Short => answer::refuse(refusal::EXHAUSTED_INPUT, bs.len()),
-        Got::On(s) => {
-            let got = numbers::long20(bs, s);
-            let w = answer::width_of(byte);
-            answer::finish(
-                bs,
-                got,
-                o,
-                Size::None,
-                w,
-                Operand::Abs16,
-                Operand::Abs20,
-                false,
-            )
-        }
-    }
+    let s = numbers::disp_word(bs, BEGIN)?;
+    let t = numbers::long20(bs, s)?;
+    let face = Face {
+        opcode,
+        width: answer::width_of(byte),
+        op0: Operand::Abs16,
+        op1: Operand::Abs20,
+        ..NAMELESS
+    };
+    Ok(face.with(t))
 }
