@@ -1,21 +1,16 @@
 -- The bytes from a place on, and decoding by the first two.
 -- Assumes nothing.
-use Prim.Native.Nat.{ℕ, zero, suc, ◌≤◌, ◌<◌}
-use mathlib.Core.Path.{◌≡◌, refl}
+use Prim.Native.Nat.{ℕ, ◌≤◌, ◌<◌}
+use mathlib.Core.Path.{◌≡◌, refl, ap, ◌∙◌}
 use mathlib.Core.List.{List, [], ◌∷◌}
-use native.Mathlib.Nat.{le_of_suc-le-suc, not-suc-le-zero}
 use native.Mathlib.Omega.{arith}
-use lib.ListN.{length, get_or, take, drop}
-use lib.Seq.{drop-nil}
+use lib.Dec.{ltb}
+use borrow.Author.Tests.{lt-ltb}
+use lib.ListN.{length, get_or, take, drop, length-drop}
+use lib.Seq.{get_or-drop}
 use Rattle.laws.specs.Choice.{pick}
 use Rattle.rows.specs.Row.{Table}
 use Rattle.rows.specs.Run.{decode_by, refusal, run_row}
-
--- past a list's end nothing is left
-pub drop_past : (k : ℕ) (l : List ℕ) → length l ≤ k → drop k l ≡ []
-drop_past k [] h = drop-nil k
-drop_past zero (x ∷ xs) h = absurd (not-suc-le-zero h)
-drop_past (suc k) (x ∷ xs) h = drop_past k xs (le_of_suc-le-suc h)
 
 -- of no more than one byte the first is all
 pub all_taken : (l : List ℕ) → length l < 2 → take 1 l ≡ l
@@ -25,15 +20,22 @@ all_taken (a ∷ b ∷ l) h = absurd (omega arith)
 
 -- by any table
 module _ (t : Table) where
-  pub none : (bs : List ℕ) → length bs ≡ 0 → refusal 1 0 ≡ decode_by t (take 1 bs)
+  -- of one byte at most
+  few : (bs : List ℕ) → decode_by t (take 1 bs) ≡ pick (ltb 0 (length bs)) (pick (t.known (get_or bs 0 0)) (refusal 1 1) (refusal 4 1)) (refusal 1 0)
   unfolding decode_by
-  none [] h = refl
-  none (a ∷ bs) h = absurd (omega arith)
+  few [] = refl
+  few (a ∷ bs) = rw (lt-ltb 0 (length (a ∷ bs)) (omega arith)) refl
 
-  pub one : (bs : List ℕ) → 1 ≤ length bs → pick (t.known (get_or bs 0 0)) (refusal 1 1) (refusal 4 1) ≡ decode_by t (take 1 bs)
-  unfolding decode_by
-  one [] h = absurd (omega arith)
-  one (a ∷ bs) h = refl
+  -- the byte is asked for at its place
+  pub few_told : (image : List ℕ) (at : ℕ)
+      → decode_by t (take 1 (drop at image)) ≡ pick (ltb at (length image)) (pick (t.known (get_or image at 0)) (refusal 1 1) (refusal 4 1)) (refusal 1 0)
+  few_told image at =
+      let byte : get_or (drop at image) 0 0 ≡ get_or image at 0 = get_or-drop at image 0 0 ∙ ap (λ i. get_or image i 0) (omega arith) in
+      few (drop at image)
+      ∙ (λ i. pick (there i) (pick (t.known (byte i)) (refusal 1 1) (refusal 4 1)) (refusal 1 0))
+    where
+      there : ltb 0 (length (drop at image)) ≡ ltb at (length image)
+      there = grind (arith, length-drop at image)
 
   pub two : (bs : List ℕ) → 2 ≤ length bs → pick (t.known (get_or bs 0 0)) (run_row (t.row_at (get_or bs 0 0) (get_or bs 1 0)) bs) (refusal 4 1) ≡ decode_by t bs
   unfolding decode_by

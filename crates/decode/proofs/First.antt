@@ -8,7 +8,7 @@ use mathlib.Core.List.{List, [], ◌∷◌}
 use native.Mathlib.Omega.{arith}
 use lib.Dec.{eqb, leb, ltb}
 use borrow.Author.Tests.{lt-leb, le-leb, le-ltb}
-use Rattle.laws.specs.Choice.{pick}
+use Rattle.laws.specs.Choice.{pick, both}
 use Rattle.laws.specs.Range.{Each}
 use Rattle.laws.proofs.Agree.{Rest, agree, agree_past}
 use Rattle.laws.proofs.Range.{each_from}
@@ -30,10 +30,10 @@ module _ (row_at : ℕ → Row) (bs : List ℕ) (r : Width → Row) (even : ℕ)
   pub of_pair : Each (λ k. Answers (even + k)) 2 → (a : ℕ) → even ≤ a → a < even + 2 → Answers a
   of_pair = each_from Answers even 2
 
--- as in_part asks
-pub known_asked : (a : ℕ) → a < 256 → known a ≡ pick (is_added a) true (pick (ltb a 0x74) false (pick (leb a 0x7E) true (eqb a 0xEB)))
+-- as in_part tells them
+pub known_told : (a : ℕ) → a < 256 → known a ≡ pick (both (leb 0x74 a) (leb a 0x7E)) true (pick (eqb a 0xEB) true (is_added a))
 unfolding known is_added
-known_asked = agree known (λ a. pick (is_added a) true (pick (ltb a 0x74) false (pick (leb a 0x7E) true (eqb a 0xEB)))) 256 refl
+known_told = agree known (λ a. pick (both (leb 0x74 a) (leb a 0x7E)) true (pick (eqb a 0xEB) true (is_added a))) 256 refl
 
 -- as the last arm of a match on the first byte has it: the pairs are told by their bounds, and the other arms' keys are these, the last first
 abbrev pub keys : List ℕ

@@ -6,6 +6,7 @@ mod groups; // the groups of which a reading by the manual changes rows
 
 ghost use Rattle.std.specs.Prelude.{◌/◌, ◌%◌, ◌≡◌, Bool, take, drop};
 ghost use Rattle.laws.specs.Choice.{pick};
+ghost use Rattle.record.specs.Answer.{answer_of};
 ghost use Rattle.rows.specs.Groups.{known, document01};
 ghost use Rattle.rows.specs.Run.{decode_by, decode_rows, refusal, run_row};
 ghost use Rattle.by_manual.specs.Changed.{change_at};
@@ -14,26 +15,23 @@ ghost use Rattle.decode.specs.steps.Rows.{row_by};
 
 use decode_74::{op7B, op7E, op78};
 use readers::answer;
-use record::{Answer, refusal};
+use readers::answer::Decoded;
+use record::refusal::Refusal;
 
+#[tactic(auto, using(crate::proofs::First::known_told))]
 fn in_part(a: u8) -> bool
     ensures { result ≡ known a }
 {
-    if decode_72::is_added(a) {
-        return true;
+    match a {
+        0x74..=0x7E | 0xEB => true,
+        _ => decode_72::is_added(a),
     }
-    if a < 0x74 {
-        return false;
-    }
-    if a <= 0x7E {
-        return true;
-    }
-    a == 0xEB
 }
 
 // The group of a first byte, by the second byte b.
-fn decode_code(manual: bool, bs: &[u8], a: u8, b: u8) -> Answer
-    ensures { result ≡ pick (known a) (run_row (row_by (change_at a (b / 16) (b % 16)) manual (document01.row_at a b)) bs.now) (refusal 4 1) }
+#[tactic(auto, unfolding(rows::specs::Groups::known, rows::specs::Groups::rows_of, by_manual::specs::Changed::change_at))]
+fn decode_code(manual: bool, bs: &[u8], a: u8, b: u8) -> Decoded
+    ensures { answer_of result ≡ pick (known a) (run_row (row_by (change_at a (b / 16) (b % 16)) manual (document01.row_at a b)) bs.now) (refusal 4 1) }
 {
     match a {
         0x74 | 0x75 => groups::decode_74(manual, bs, a % 2 == 0, b),
@@ -50,42 +48,41 @@ fn decode_code(manual: bool, bs: &[u8], a: u8, b: u8) -> Answer
 }
 
 // As if one byte stood at the place, or none: readings differ only in codes, of two.
-pub fn decode_few(image: &[u8], at: usize) -> Answer
-    ensures { (manual : Bool) → result ≡ decode_by (table_by manual) (take 1 (drop at image.now)) }
+#[tactic(auto, using(crate::proofs::Bytes::few_told, crate::proofs::Readings::known_by))]
+pub fn decode_few(image: &[u8], at: usize) -> Decoded
+    ensures { (manual : Bool) → answer_of result ≡ decode_by (table_by manual) (take 1 (drop at image.now)) }
 {
-    if image.len() <= at {
-        return answer::refuse(refusal::EXHAUSTED_INPUT, 0);
+    match image.get(at) {
+        None => answer::refuse(Refusal::ExhaustedInput, 0),
+        Some(a) if in_part(*a) => answer::refuse(Refusal::ExhaustedInput, 1),
+        Some(_) => answer::refuse(Refusal::FirstByteOutside, 1),
     }
-    if in_part(image[at]) {
-        return answer::refuse(refusal::EXHAUSTED_INPUT, 1);
-    }
-    answer::refuse(refusal::FIRST_BYTE_OUTSIDE, 1)
 }
 
 // The instruction at a place of an image, by document 01 or by the manual. A place at or past its end is an empty string: refusal 1, no byte taken.
-pub fn decode_by(manual: bool, image: &[u8], at: usize) -> Answer
-    ensures { result ≡ decode_by (table_by manual) (drop at image.now) }
+pub fn decode_by(manual: bool, image: &[u8], at: usize) -> Decoded
+    ensures { answer_of result ≡ decode_by (table_by manual) (drop at image.now) }
 {
     if image.len() < at {
         return decode_few(image, at);
     }
     let bs = &image[at..];
-    if bs.len() < 2 {
+    let [a, b, ..] = bs else {
         return decode_few(image, at);
-    }
-    decode_code(manual, bs, bs[0], bs[1])
+    };
+    decode_code(manual, bs, *a, *b)
 }
 
 // As document 01 has it.
-pub fn decode(image: &[u8], at: usize) -> Answer
-    ensures { result ≡ decode_rows (drop at image.now) }
+pub fn decode(image: &[u8], at: usize) -> Decoded
+    ensures { answer_of result ≡ decode_rows (drop at image.now) }
 {
     decode_by(false, image, at)
 }
 
 // As the manual has it, where request A9 says so.
-pub fn decode_manual(image: &[u8], at: usize) -> Answer
-    ensures { result ≡ decode_by by_manual (drop at image.now) }
+pub fn decode_manual(image: &[u8], at: usize) -> Decoded
+    ensures { answer_of result ≡ decode_by by_manual (drop at image.now) }
 {
     decode_by(true, image, at)
 }

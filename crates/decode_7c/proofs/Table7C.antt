@@ -1,13 +1,11 @@
 -- 7C: the code's tables and tests are document 01's rows.
 -- Assumes nothing.
-use Prim.Native.Nat.{ℕ, ◌%◌, ◌<◌}
+use Prim.Native.Nat.{ℕ, ◌<◌}
 use mathlib.Core.Path.{◌≡◌, refl}
 use mathlib.Core.List.{[], ◌∷◌}
-use lib.Dec.{ltb}
-use Rattle.laws.specs.Choice.{pick}
 use Rattle.laws.proofs.Agree.{agree, Rest, agree_past}
 use Rattle.rows.specs.Row.{InvalidOpcode}
-use Rattle.rows.specs.Rows.{row, refused, exchanged, bad_exts, row_7C, row_7CF}
+use Rattle.rows.specs.Rows.{row, refused, exchanged, bad_exts, row_7C}
 use Rattle.decode_7c.specs.steps.Op7C.{meant_by, nibble, no_exts}
 
 pub meant : (n : ℕ) → n < 16 → meant_by n ≡ exchanged n

@@ -2,14 +2,10 @@
 -- Assumes nothing.
 use Prim.Native.Nat.{ℕ, ◌<◌}
 use mathlib.Core.Path.{◌≡◌, refl}
-use mathlib.Core.Bool.{Bool, true, false}
-use mathlib.Core.List.{List}
 use Rattle.laws.proofs.Agree.{agree}
 use Rattle.record.specs.declared.Width.{Width}
-use Rattle.rows.specs.Rows.{row, mulu, mul, row_E}
-use Rattle.rows.specs.Run.{read_disp, run, run_row}
-use Rattle.readers.specs.steps.Width.{width_of}
-use Rattle.decode_7c.specs.steps.Shared.{mul_by, table_E}
+use Rattle.rows.specs.Rows.{row, row_E}
+use Rattle.decode_7c.specs.steps.Shared.{table_E}
 
 pub tables_E : (w : Width) (n : ℕ) → n < 16 → row_E w n ≡ table_E w n
 unfolding row row_E table_E

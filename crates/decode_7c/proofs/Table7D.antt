@@ -3,13 +3,12 @@
 use Prim.Native.Nat.{ℕ, ◌≤◌, ◌<◌}
 use native.Mathlib.Omega.{arith}
 use mathlib.Core.Path.{◌≡◌, refl}
-use mathlib.Core.List.{[], ◌∷◌}
 use lib.Dec.{ltb}
 use Rattle.laws.specs.Choice.{pick}
-use Rattle.laws.proofs.Agree.{agree, Rest, agree_past}
+use Rattle.laws.proofs.Agree.{agree}
 use Rattle.rows.specs.Row.{InvalidOpcode, Row}
-use Rattle.rows.specs.Rows.{row, refused, star_if, jump, flagged, row_7D, row_7DC, row_7DD, row_7DF}
-use Rattle.decode_7c.specs.steps.Op7D.{jump_by, no_condition, jump_at, condition_by, marked_by}
+use Rattle.rows.specs.Rows.{row, refused, star_if, jump, flagged, row_7D, row_7DC, row_7DD}
+use Rattle.decode_7c.specs.steps.Op7D.{no_condition, jump_at, condition_by, marked_by}
 
 -- no row at 6, 7 and 8
 pub vacant : (n h : ℕ) → 6 ≤ h → h < 9 → row_7D h n ≡ refused InvalidOpcode

@@ -20,30 +20,6 @@ use Rattle.decode.proofs.Readings.{row_own}
 use Rattle.decode.proofs.decode_code.Goals.{in_default-via-then-a-lt116, in_default-via-else-a-lt116+else-a-lt118+else-a-lt120+else-a-lt122}
 use Rattle.decode.proofs.decode_code.Goals as goal
 
-pub returns-in-122 : goal.returns-in-122
-unfolding known rows_of change_at
-returns-in-122 c = rw c.in-122.is c.decode_7A.ensures
-
-pub returns-in-123 : goal.returns-in-123
-unfolding known rows_of change_at
-returns-in-123 c = rw c.in-123.is c.decode_op7B.ensures
-
-pub returns-in-124 : goal.returns-in-124
-unfolding known rows_of change_at
-returns-in-124 c = rw c.in-124.is c.decode_7C.ensures
-
-pub returns-in-125 : goal.returns-in-125
-unfolding known rows_of change_at
-returns-in-125 c = rw c.in-125.is c.decode_7D.ensures
-
-pub returns-in-126 : goal.returns-in-126
-unfolding known rows_of change_at
-returns-in-126 c = rw c.in-126.is c.decode_op7E.ensures
-
-pub returns-in-235 : goal.returns-in-235
-unfolding known rows_of change_at
-returns-in-235 c = rw c.in-235.is c.decode_EB.ensures
-
 pub returns-in-116 : goal.returns-in-116
 unfolding known rows_of change_at
 returns-in-116 c =

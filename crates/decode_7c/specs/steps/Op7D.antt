@@ -1,5 +1,5 @@
 -- Parts of 7D as the code takes them. (The laws that these are document 01's rows are in proofs/Table7D.)
-use Rattle.std.specs.Prelude.{ℕ, ◌+◌, ◌%◌, Bool, [], ◌∷◌, get_or, ltb, leb, eqb}
+use Rattle.std.specs.Prelude.{ℕ, ◌%◌, Bool, [], ◌∷◌, get_or, leb, eqb}
 use Rattle.laws.specs.Choice.{pick}
 use Rattle.record.specs.declared.Opcode.{Opcode}
 use Rattle.record.specs.declared.Opcode.TheVariants.{NOP, JMPI, JSRI, JLE, JO, JGE, JGT, JNO, JLT, BMGEU, BMGTU, BMEQ, BMN, BMLTU, BMLEU, BMNE, BMPZ, BMLE, BMO, GE, BMGT, NO, LT}

@@ -1,5 +1,5 @@
 -- `decode_7c::op7C::decode_op7C` meets its contract.
-use Prim.Native.Nat.{◌/◌, ◌%◌}
+use Prim.Native.Nat.{◌/◌}
 use native.Mathlib.Omega.{arith}
 use borrow.Author.Rules.{rules}
 use Rattle.decode_7c.proofs.Table7C.{nibbles}

@@ -11,6 +11,6 @@ use Rattle.decode_7c.proofs.op7C.move_nibble.Goals.{then-h-lt4, else-h-lt4}
 pub returns : goal.returns
 unfolding run_row row nibble
 returns c = elim c.if-h-lt4.branch [
-  then-h-lt4 w ↦ rw (lt-ltb _ 4 w.if-h-lt4.true) (grind (arith, steps))
+  | then-h-lt4 w ↦ rw (lt-ltb _ 4 w.if-h-lt4.true) (grind (arith, steps))
   | else-h-lt4 w ↦ rw (le-ltb _ 4 w.if-h-lt4.false) (grind (arith, steps))
 ]
