@@ -62,6 +62,7 @@ fn size_of(o: Operand) -> u8
 }
 
 #[tactic(auto, using(crate::proofs::Sized::sized_count, crate::proofs::Sized::sized_short, crate::proofs::Sized::sized_limit))]
+#[inline]
 pub(crate) fn slot_of(o: Operand) -> Slot
     ensures { (result.count ≡ count_of o) × (result.limit ≡ limit_of o) }
 {

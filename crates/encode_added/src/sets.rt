@@ -106,13 +106,16 @@ fn at_none(k: Kind) -> Sets
     }
 }
 
+// (Of most opcodes no row is changed: they are told first, before any set is looked up.)
+#[tactic(auto, unfolding(crate::specs::steps::Entries::goes_as, record::specs::Same::among))]
 pub(crate) fn goes(o: Opcode, q: Asked) -> bool
     ensures { result ≡ entries.goes o q }
 {
     let kind = kind_of(o);
-    match q.width {
-        Width::B => forms::all_in(at_b(kind), q),
-        Width::W => forms::all_in(at_w(kind), q),
-        Width::None => forms::all_in(at_none(kind), q),
+    match (kind, q.width) {
+        (Kind::Unchanged, _) => false,
+        (_, Width::B) => forms::all_in(at_b(kind), q),
+        (_, Width::W) => forms::all_in(at_w(kind), q),
+        (_, Width::None) => forms::all_in(at_none(kind), q),
     }
 }

@@ -18,6 +18,7 @@ fn by_number(zero: bool, small: bool, deref: Operand, disp8: Operand, disp16: Op
 }
 
 // The shortest name for a base, as its number is 0, or below 256.
+#[inline]
 fn narrow(o: Operand, zero: bool, small: bool) -> Operand
     ensures { result ≡ choice.narrow o zero small }
 {
