@@ -13,19 +13,22 @@ fn count(word: u64) -> usize
     ((71 - u64::leading_zeros(word)) / 8) as usize
 }
 
+// (Tried with `for n in 0..8`: the loop over the words is then not unrolled, and a line takes a fifth more instructions.)
 fn write_word(word: u64, out: &mut [u8]) -> usize
     requires { length (chars word) ≤ length out.old }
     ensures { (result ≡ length (chars word)) × (out.new ≡ over (chars word) out.old) }
 {
     let mut rest = word;
-    for n in 0..8 {
+    let mut n = 0;
+    while n < 8 {
         if rest == 0 {
             return n;
         }
         out[n] = (rest % 256) as u8;
         rest /= 256;
+        n += 1;
     }
-    8
+    n
 }
 
 fn count_all(words: &[u64]) -> usize

@@ -6,16 +6,15 @@ ghost use Rattle.std.specs.Prelude.{◌≡◌};
 ghost use Rattle.m16c_operand_number.specs.Told.{refusal_of, TellsNumber};
 
 use record::fields::Field;
-use record::{refusal, signed};
+use record::refusal::Refusal;
+use record::signed;
 
 fn refusal_of(f: Field) -> u32
     ensures { result ≡ refusal_of f }
 {
     match f {
-        Field::Nowhere => refusal::NO_STRING as u32,
-        Field::Wide => refusal::ACCEPTED as u32,
-        Field::Short => refusal::ACCEPTED as u32,
-        Field::Early => refusal::ACCEPTED as u32,
+        Field::Nowhere => u32::from(Refusal::NoString),
+        Field::Wide | Field::Short | Field::Early => 0,
     }
 }
 
@@ -26,8 +25,6 @@ pub fn m16c_operand_number(numbers: &[u32], k: usize, number: &mut i64) -> u32
     ensures { TellsNumber numbers.now k result number.new }
 {
     let n = signed::number_at(from_numbers::record_of(numbers), k);
-    let value = n.value;
-    let field = n.field;
-    *number = value;
-    refusal_of(field)
+    *number = n.value;
+    refusal_of(n.field)
 }

@@ -8,6 +8,7 @@ use std::io;
 use std::io::Read;
 
 // How many bytes the input had for a buffer, all of which were read into its front.
+// (By a loop of its own: `read_exact` tells no count where the input ends first, and `read_to_end` takes memory.)
 pub fn read_full<R: Read>(input: &mut R, buf: &mut [u8]) -> io::Result<usize>
     ensures inside { IfOk result (λ n. n ≤ length buf.new) }
     ensures same_length { length buf.new ≡ length buf.old }

@@ -21,6 +21,7 @@ loop-n-preserved c =
     let l = c.loop-n in
     let e = next l.n l.rest (omega arith) c.if-rest-eq0.false in
     let within : l.n < length l.out = omega (arith, ap length e) in record {
+      few = omega arith;
       all = omega (arith, ap length e);
       written = sym (put_one l.n l.out (l.rest % 256) (up_to (8 - (l.n + 1)) (l.rest / 256)) within) ∙ ap (λ cs. put l.n cs l.out) (sym e) ∙ l.invariant.written;
     }
@@ -29,5 +30,4 @@ pub returns : goal.returns
 returns c =
     let l = c.loop-n in
     let e = last l.n l.rest (omega arith) in
-    let n : l.n ≡ 8 = omega arith in
     (omega (arith, ap length e), sym (put_none l.n l.out) ∙ ap (λ cs. put l.n cs l.out) (sym e) ∙ l.invariant.written)
