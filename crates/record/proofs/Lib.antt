@@ -6,3 +6,4 @@ pub mod Three
 pub mod Same
 pub mod Counted
 pub mod Equal
+pub mod Refusals

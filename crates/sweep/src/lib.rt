@@ -6,8 +6,9 @@ ghost use Rattle.std.specs.Prelude.{◌+◌, ◌-◌, ◌≤◌, ◌≡◌, leng
 ghost use Rattle.record.specs.Answer.{number_of};
 ghost use Rattle.rows.specs.Groups.{document01};
 ghost use Rattle.by_manual.specs.Table.{by_manual, table_by};
-ghost use Rattle.sweep.specs.Sweep.{swept_of, Sweeps};
-ghost use Rattle.sweep.specs.steps.Before.{Took, Runs, why_no};
+ghost use Rattle.sweep.specs.Swept.{swept_of};
+ghost use Rattle.sweep.specs.Sweep.{Sweeps};
+ghost use Rattle.sweep.specs.steps.Before.{Took, Runs};
 
 use record::refusal::{Refusal, Refused};
 

@@ -2,7 +2,8 @@
 ghost use Rattle.std.specs.Prelude.{◌≡◌};
 ghost use Rattle.rows.specs.Run.{decode_by};
 ghost use Rattle.by_manual.specs.Table.{table_by};
-ghost use Rattle.sweep.specs.Walk.{standing, step_at};
+ghost use Rattle.sweep.specs.Step.{standing};
+ghost use Rattle.sweep.specs.Walk.{step_at};
 
 use readers::answer::Decoded;
 

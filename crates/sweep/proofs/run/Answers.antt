@@ -28,30 +28,37 @@ module _ (m : Bool) (bs : List ℕ) (p : ℕ) {s : Step} (stands : s ≡ step_at
   left n d ss room e = sym (here_counted (by_table (table_by m)) bs Stop p n 0 d ss room stands refl) ∙ e
 
 pub bounds-starts-count : goal.bounds-starts-count
-bounds-starts-count c = omega (arith, lies _ _ _ c.in-Accepted.ensures, c.requires)
+bounds-starts-count c =
+    let here = rw c.in-Some-Ok.field-0-is at c.in-Some-Ok.ensures in
+    omega (arith, lies _ _ _ here, c.requires)
 
 pub overflow_add-place : goal.overflow_add-place
-overflow_add-place c = omega (arith, lies _ _ _ c.in-Accepted.ensures, c.requires)
+overflow_add-place c =
+    let here = rw c.in-Some-Ok.field-0-is at c.in-Some-Ok.ensures in
+    omega (arith, lies _ _ _ here, c.requires)
 
-pub loop-refusal-smaller : goal.loop-refusal-smaller
-loop-refusal-smaller c = omega (arith, lies _ _ _ c.in-Accepted.ensures)
+pub loop-here-smaller : goal.loop-here-smaller
+loop-here-smaller c =
+    let here = rw c.in-Some-Ok.field-0-is at c.in-Some-Ok.ensures in
+    omega (arith, lies _ _ _ here)
 
-pub loop-refusal-preserved : goal.loop-refusal-preserved
-loop-refusal-preserved c =
-    let l = c.loop-refusal in
-    let here = lies _ _ _ c.in-Accepted.ensures in record {
+pub loop-here-preserved : goal.loop-here-preserved
+loop-here-preserved c =
+    let l = c.loop-here in
+    let stands = rw c.in-Some-Ok.field-0-is at c.in-Some-Ok.ensures in
+    let here = lies _ _ _ stands in record {
       few = omega arith;
       ahead = omega arith;
       inside = omega arith;
       long = rw length-set l.invariant.long;
-      left = rw (passed _ _ _ l.invariant.ahead) (left _ _ _ c.in-Accepted.ensures l.count (l.place - c.args.from) l.starts (omega (arith, c.requires)) l.invariant.left);
+      left = rw (passed _ _ _ l.invariant.ahead) (left _ _ _ stands l.count (l.place - c.args.from) l.starts (omega (arith, c.requires)) l.invariant.left);
     }
 
-pub returns-in-End : goal.returns-in-End
-returns-in-End c =
-    let l = c.loop-refusal in
+pub returns-in-None : goal.returns-in-None
+returns-in-None c =
+    let l = c.loop-here in
     let i = l.invariant in record {
-      walked = left _ _ _ c.in-End.ensures l.count (l.place - c.args.from) l.starts (omega (arith, c.requires)) i.left;
+      walked = left _ _ _ c.in-None.ensures l.count (l.place - c.args.from) l.starts (omega (arith, c.requires)) i.left;
       long = i.long;
       ahead = i.ahead;
       inside = omega arith;
@@ -59,15 +66,16 @@ returns-in-End c =
       few = i.few;
     }
 
-pub returns-in-Refused : goal.returns-in-Refused
-returns-in-Refused c =
-    let l = c.loop-refusal in
+pub returns-in-Some-Err : goal.returns-in-Some-Err
+returns-in-Some-Err c =
+    let l = c.loop-here in
     let i = l.invariant in
-    let here = lies _ _ _ c.in-Refused.ensures in record {
-      walked = left _ _ _ c.in-Refused.ensures l.count (l.place - c.args.from) l.starts (omega (arith, c.requires)) i.left;
+    let stands = rw c.in-Some-Err.field-0-is at c.in-Some-Err.ensures in
+    let here = lies _ _ _ stands in record {
+      walked = left _ _ _ stands l.count (l.place - c.args.from) l.starts (omega (arith, c.requires)) i.left;
       long = i.long;
       ahead = i.ahead;
-      inside = omega arith;
-      took = took (table_by c.args.manual) _ _ _ _ c.in-Refused.ensures;
+      inside = omega (arith, here);
+      took = took (table_by c.args.manual) _ _ _ _ stands;
       few = i.few;
     }

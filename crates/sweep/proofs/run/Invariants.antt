@@ -7,8 +7,8 @@ use Rattle.sweep.specs.Walk.{walk}
 use Rattle.sweep.specs.steps.Before.{behind}
 use Rattle.sweep.proofs.run.Given as goal
 
-abbrev pub invariant-loop-refusal : goal.invariant-loop-refusal
-invariant-loop-refusal l = record {
+abbrev pub invariant-loop-here : goal.invariant-loop-here
+invariant-loop-here l = record {
   few : l.count + l.from ≤ l.place + l.kept;
   ahead : l.from ≤ l.place;
   inside : l.place ≤ length l.image;
@@ -16,5 +16,5 @@ invariant-loop-refusal l = record {
   left : behind (walk (decode_by (table_by l.manual)) Stop l.image l.place) l.count 0 (l.place - l.from) l.starts ≡ behind (walk (decode_by (table_by l.manual)) Stop l.image l.from) l.kept 0 0 l.fn.starts;
 }
 
-abbrev pub decreases-loop-refusal : goal.decreases-loop-refusal
-decreases-loop-refusal l = length l.image - l.place
+abbrev pub decreases-loop-here : goal.decreases-loop-here
+decreases-loop-here l = length l.image - l.place

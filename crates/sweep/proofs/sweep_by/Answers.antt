@@ -1,6 +1,6 @@
 -- `sweep::sweep_by` meets its contract.
 -- Assumes nothing.
-use Rattle.std.proofs.Common.{◌≡◌, ℕ, ◌+◌, ◌-◌, ◌≤◌, ◌<◌, List, length, refl, ap, ◌∙◌, arith}
+use Rattle.std.proofs.Common.{◌≡◌, ℕ, ◌+◌, ◌-◌, ◌≤◌, ◌<◌, List, length, refl, sym, ap, subst, ◌∙◌, arith}
 use borrow.Author.Tests.{lt-ltb, le-ltb}
 use Rattle.rows.specs.Row.{Table}
 use Rattle.rows.specs.Run.{decode_by}
@@ -9,7 +9,8 @@ use Rattle.sweep.specs.declared.Stopped.{Stopped}
 use Rattle.sweep.specs.Walk.{walk}
 use Rattle.sweep.specs.Swept.{Swept, not_swept}
 use Rattle.sweep.specs.Sweep.{outcome, whole, Sweeps}
-use Rattle.sweep.specs.steps.Before.{behind, Runs}
+use Rattle.sweep.specs.steps.Before.{behind, Runs, why_no, taken_there}
+use Rattle.record.proofs.Refusals.{refused as not_zero}
 use Rattle.sweep.proofs.Walk.{by_table}
 use Rattle.sweep.proofs.Before.{none_before}
 use Rattle.sweep.proofs.Runs.{Continues, continues}
@@ -35,18 +36,18 @@ module _ (t : Table) (rule : Rule) (bs ss : List ℕ) where
   -- a run r from a place, with n starts, m refused places and d bytes before it, of a sweep whose answer is known: n read bytes are those
   -- before and the run's
   goes_on : (p n m d : ℕ) (now : List ℕ) {r : Stopped} {after : List ℕ} {read : ℕ} → n + (length bs - p) ≤ length now → Runs t bs p n now r after
-      → behind (walk (decode_by t) rule bs p) n m d now ≡ whole t rule bs ss → d + (r.place - p + r.taken) ≡ read
-      → Continues rule (walk (decode_by t) rule bs) bs (whole t rule bs ss) m read r.refusal r.count r.place after
+      → behind (walk (decode_by t) rule bs p) n m d now ≡ whole t rule bs ss → d + (r.place - p + taken_there r.refused) ≡ read
+      → Continues rule (walk (decode_by t) rule bs) bs (whole t rule bs ss) m read (why_no r.refused) r.count r.place after
   goes_on p n m d now room ran left read = continues (by_table t) bs rule p n m d now room ran.walked read left
 
 pub returns-then-image-gt4096 : goal.returns-then-image-gt4096
-returns-then-image-gt4096 c = too_long _ _ _ _ (omega arith) c.not_swept.ensures
+returns-then-image-gt4096 c = too_long _ _ _ _ (omega arith) refl
 
 pub returns-then-starts-image : goal.returns-then-starts-image
-returns-then-starts-image c = no_room _ _ _ _ (omega arith) (omega arith) c.not_swept-then-starts-image.ensures
+returns-then-starts-image c = no_room _ _ _ _ (omega arith) (omega arith) refl
 
-pub loop-rule-init : goal.loop-rule-init
-loop-rule-init c = record {
+pub loop-here-init : goal.loop-here-init
+loop-here-init c = record {
   few = omega arith;
   inside = omega arith;
   long = refl;
@@ -55,27 +56,29 @@ loop-rule-init c = record {
   twice = omega arith;
 }
 
-pub returns-then-stopped-eq-ACCEPTED : goal.returns-then-stopped-eq-ACCEPTED
-returns-then-stopped-eq-ACCEPTED c =
-    let l = c.loop-rule in
-    let end = c.if-stopped-eq-ACCEPTED.true in
+-- at the image's end
+pub returns-in_default : goal.returns-in_default
+returns-in_default c =
+    let l = c.loop-here in
+    let end = ap why_no c.in_default.is in
     let done = c.run-stopped.ensures in
     let rest = goes_on _ _ _ c.args.starts.now l.place l.count l.refused (l.place + l.again) l.starts {read = c.run-stopped.result.place + l.again}
     (omega (arith, l.invariant.long)) done l.invariant.left (omega (arith, done.ahead, done.took.none end)) in
     sweeps _ _ _ _ (rest.ended end)
 
-pub loop-rule-preserved : goal.loop-rule-preserved
-loop-rule-preserved c =
-    let l = c.loop-rule in
+pub loop-here-preserved : goal.loop-here-preserved
+loop-here-preserved c =
+    let l = c.loop-here in
     let on = c.in-GoOn.is in
     let done = c.run-stopped.ensures in
-    let refused = c.if-stopped-eq-ACCEPTED.false in
+    let refused = subst (λ x. why_no x ≡ 0 → ⊥) (sym c.in-Some.is) (not_zero c.in-Some.here.why) in
+    let taken = ap taken_there c.in-Some.is in
     let rest = goes_on _ _ _ c.args.starts.now l.place l.count l.refused (l.place + l.again) l.starts {read = c.run-stopped.result.place + 1 + c.read_again-later.result}
-    (omega (arith, l.invariant.long)) done l.invariant.left (omega (arith, done.ahead, done.took.some refused, c.read_again-later.ensures)) in record {
+    (omega (arith, l.invariant.long)) done l.invariant.left (omega (arith, done.ahead, done.took.some refused, c.read_again-later.ensures, taken)) in record {
       few = omega (arith, done.few);
       inside = omega (arith, rest.inside refused);
       long = done.long ∙ l.invariant.long;
       stops = λ stop. absurd (let z : ◌≡◌ {A = ℕ} 0 1 = cc in omega arith);
       left = rest.passed on refused;
-      twice = omega (arith, done.ahead, done.inside, l.invariant.twice, c.read_again-later.ensures);
+      twice = omega (arith, done.ahead, done.inside, l.invariant.twice, c.read_again-later.ensures, taken);
     }

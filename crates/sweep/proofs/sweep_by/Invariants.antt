@@ -8,8 +8,8 @@ use Rattle.sweep.specs.Sweep.{whole}
 use Rattle.sweep.specs.steps.Before.{behind}
 use Rattle.sweep.proofs.sweep_by.Given as goal
 
-abbrev pub invariant-loop-rule : goal.invariant-loop-rule
-invariant-loop-rule l = record {
+abbrev pub invariant-loop-here : goal.invariant-loop-here
+invariant-loop-here l = record {
   few : l.count + l.refused ≤ l.place;
   inside : l.place ≤ length l.image;
   long : length l.starts ≡ length l.fn.starts;
@@ -18,5 +18,5 @@ invariant-loop-rule l = record {
   twice : l.again ≤ 4096 * l.place;
 }
 
-abbrev pub decreases-loop-rule : goal.decreases-loop-rule
-decreases-loop-rule l = length l.image - l.place
+abbrev pub decreases-loop-here : goal.decreases-loop-here
+decreases-loop-here l = length l.image - l.place
