@@ -1,4 +1,4 @@
-// A record's line as packed words: no text lies in memory until it is delivered (there is no heap), and a word is written at once.
+// A record's line as packed words, up to eight characters in each: there is no heap to make texts in, and a word is passed as a number.
 ghost use Rattle.std.specs.Prelude.{◌≡◌, ◌∷◌, map, ◌<◌, ◌≤◌, nat_abs};
 ghost use Rattle.record.specs.Answer.{number_of};
 ghost use Rattle.record.specs.Signed as signs;
