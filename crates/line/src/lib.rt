@@ -13,8 +13,7 @@ ghost use Rattle.line.specs.Line.{line_of, from_width, end_text, refused_text};
 use record::Record;
 use record::refusal::{Refusal, Refused};
 
-// Each answers the length written, or that there is too little room.
-// The line of a record at a place.
+// The line of a record at a place. This and the others answer the length written, or that there is too little room.
 pub fn line(place: usize, r: Record, out: &mut [u8]) -> Result<usize, Refusal>
     ensures { Writes (line_of place r) out.old result out.new }
 {

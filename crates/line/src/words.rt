@@ -1,4 +1,4 @@
-// A record's line as packed words: no text lies in memory until it is delivered (there is no heap), and a word is written at once.
+// A record's line as packed words, up to eight characters in each: there is no heap to make texts in, and a word is passed as a number.
 ghost use Rattle.std.specs.Prelude.{◌≡◌, ◌∷◌, map, ◌<◌, ◌≤◌, nat_abs};
 ghost use Rattle.record.specs.Answer.{number_of};
 ghost use Rattle.record.specs.Signed as signs;
@@ -129,31 +129,25 @@ fn dropped_word(x: bool) -> u64
 pub fn words_of(first: u64, second: u64, r: Record) -> [u64; 15]
     ensures { result ≡ first ∷ second ∷ map pack (parts r) }
 {
-    let op0 = r.op0;
-    let op1 = r.op1;
-    let op2 = r.op2;
-    let a = names::operand_shown(op0);
-    let b = names::operand_shown(op1);
-    let c = names::operand_shown(op2);
+    let a = names::operand_shown(r.op0);
+    let b = names::operand_shown(r.op1);
+    let c = names::operand_shown(r.op2);
     let numbers = fields::numbers_of(r);
-    let width = r.width;
-    let opcode = r.opcode;
-    let size = r.size;
     [
         first,
         second,
-        width_word(width),
-        names::opcode_word(opcode),
-        size_word(size),
+        width_word(r.width),
+        names::opcode_word(r.opcode),
+        size_word(r.size),
         a.0,
         a.1,
-        number_word(op0, numbers.number0),
+        number_word(r.op0, numbers.number0),
         b.0,
         b.1,
-        number_word(op1, numbers.number1),
+        number_word(r.op1, numbers.number1),
         c.0,
         c.1,
-        number_word(op2, numbers.number2),
+        number_word(r.op2, numbers.number2),
         dropped_word(r.dropped),
     ]
 }
