@@ -15,11 +15,15 @@ use Rattle.sweep.specs.Step.{Step}
 use Rattle.sweep.specs.Step.{End, Accepted, Refused}
 use Rattle.sweep.specs.Walk.{step_at, Onward, onward, visit, walk}
 use Rattle.sweep.proofs.Walk.{turned, by_table}
-use Rattle.line.specs.declared.Written.{Written}
+use Rattle.std.specs.Prelude.{Result, Ok}
+use Rattle.record.specs.declared.refusal.Refusal.{Refusal}
 use Rattle.laws.specs.Over.{over}
 use Rattle.line.specs.Left.{left, Writes}
 use Rattle.line.proofs.Lined.{line_short}
 use Rattle.listing.specs.Listing.{step_text, line_at, text_of, listed}
+
+pub ok_one : {a b : ℕ} → ◌≡◌ {A = Result ℕ Refusal} (Ok a) (Ok b) → a ≡ b
+ok_one e = cc
 
 text_short : (p : ℕ) (s : Step) → length (step_text p s) ≤ 120
 text_short p End = omega arith
@@ -34,10 +38,10 @@ module _ (p : ℕ) (s : Step) where
   line_room = omega (arith, line_longer, text_short p s)
 
 -- a text that has room over the first bytes of a buffer, and the newline behind it
-module _ (xs bs : List ℕ) (h : length xs < length bs) {w : Written} {ys : List ℕ} (said : Writes xs bs w ys) where
-  pub long : w.length ≡ length xs
+module _ (xs bs : List ℕ) (h : length xs < length bs) {w : Result ℕ Refusal} {ys : List ℕ} (said : Writes xs bs w ys) where
+  pub written : w ≡ Ok (length xs)
   unfolding left
-  long = ap (λ (v : Written). v.length) said.returned ∙ rw (le-leb (length xs) (length bs) (omega arith))
+  written = said.returned ∙ rw (le-leb (length xs) (length bs) (omega arith))
 
   there : ys ≡ over xs bs
   unfolding left
@@ -46,10 +50,10 @@ module _ (xs bs : List ℕ) (h : length xs < length bs) {w : Written} {ys : List
   pub same_length : length ys ≡ length bs
   same_length = ap length there ∙ omega (arith, length-append xs (drop (length xs) bs), length-drop (length xs) bs)
 
-  pub closed : set ys w.length 10 ≡ over (xs ++ (10 ∷ [])) bs
+  pub closed : set ys (length xs) 10 ≡ over (xs ++ (10 ∷ [])) bs
   closed =
       let n : length (xs ++ (10 ∷ [])) ≡ suc (length xs) = length-append xs (10 ∷ []) ∙ add-one (length xs) in
-      ap (λ k. set ys k 10) long ∙ ap (λ l. set l (length xs) 10) there
+      ap (λ l. set l (length xs) 10) there
       ∙ ap (λ z. set (xs ++ z) (length xs) 10) (drop-cons bs (length xs) 0 h) ∙ set-append_seam xs _ (drop (suc (length xs)) bs) 10
       ∙ sym (append_snoc xs 10 (drop (suc (length xs)) bs)) ∙ ap (λ k. (xs ++ (10 ∷ [])) ++ drop k bs) (sym n)
 

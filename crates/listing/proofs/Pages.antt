@@ -12,20 +12,19 @@ use Rattle.laws.proofs.Over.{put_taken, written_part}
 use Rattle.rows.specs.Row.{Table}
 use Rattle.sweep.specs.declared.Rule.{Rule}
 use Rattle.sweep.specs.Walk.{Onward, stop, on}
+use Rattle.std.specs.Prelude.{Option, Some, None}
 use Rattle.listing.specs.declared.page.Next.{Next}
-use Rattle.listing.specs.declared.page.Next.TheVariants.{TooLong, From, Nothing}
 use Rattle.listing.specs.Listing.{listing}
 use Rattle.listing.specs.steps.Page.{to_list, next_of, Paged, none, more}
 
 -- what is next tells where a walk leads
-pub leads : (o : Onward) {q : ℕ} → next_of o ≡ From q → o ≡ on q
+pub leads : (o : Onward) {q : ℕ} → next_of o ≡ Some q → o ≡ on q
 leads stop e = cc
 leads (on p) e = cc
 
-pub stops : (o : Onward) {n : Next} → n ≡ next_of o → (n ≡ TooLong) ⊎ (n ≡ Nothing) → o ≡ stop
-stops stop e h = refl
-stops (on p) e (inl f) = cc
-stops (on p) e (inr f) = cc
+pub stops : (o : Onward) → next_of o ≡ None → o ≡ stop
+stops stop e = refl
+stops (on p) e = cc
 
 module _ (at : ℕ) (l xs : List ℕ) {n : ℕ} {ys : List ℕ} (h : at + length xs ≤ length l)
     (put : (n ≡ length xs) × (ys ≡ over xs (take (length l - at) (drop at l)))) where
@@ -39,10 +38,10 @@ module _ (at : ℕ) (l xs : List ℕ) {n : ℕ} {ys : List ℕ} (h : at + length
   pub line_last : {here whole : List ℕ} → here ≡ xs → take at l ++ here ≡ whole → take (at + n) (put_mid at (length l - at) l ys) ++ [] ≡ whole
   line_last e all = line_more [] (e ∙ sym (append-nil xs)) all
 
-whole : {t : Table} {rule : Rule} {bs : List ℕ} {next : Next} {text : List ℕ} → Paged t rule bs next text → text ≡ to_list t rule bs next
+whole : {t : Table} {rule : Rule} {bs : List ℕ} {next : Option Next} {text : List ℕ} → Paged t rule bs next text → text ≡ to_list t rule bs next
 whole none = refl
 whole (more {r = r} {out = out} filled rest) = ap (λ z. take r.length out ++ z) (whole rest) ∙ filled.same
 
 -- from where the listing begins, pages of any size are the listing
-pub one_after_the_other : {t : Table} {rule : Rule} {bs : List ℕ} {first : Next} {text : List ℕ} → to_list t rule bs first ≡ listing t rule bs → Paged t rule bs first text → text ≡ listing t rule bs
+pub one_after_the_other : {t : Table} {rule : Rule} {bs : List ℕ} {first : Option Next} {text : List ℕ} → to_list t rule bs first ≡ listing t rule bs → Paged t rule bs first text → text ≡ listing t rule bs
 one_after_the_other begun pages = whole pages ∙ begun

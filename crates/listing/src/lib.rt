@@ -16,9 +16,9 @@ pub fn list<W: Write>(manual: bool, rule: Rule, image: &[u8], out: &mut W) -> io
     ensures { OnOk result (Appends (W.contents out.old) (W.contents out.new) (listing (table_by manual) rule image.now)) }
 {
     let mut piece = [0u8; 8192];
-    let mut next = page::first(image);
-    while page::is_more(next) {
-        let p = page::fill(manual, rule, image, next, &mut piece);
+    let mut next = Some(page::first(image));
+    while let Some(here) = next {
+        let p = page::fill(manual, rule, image, here, &mut piece);
         out.write_all(&piece[..p.length])?;
         next = p.next;
     }

@@ -6,9 +6,9 @@ use Rattle.listing.specs.Listing.{listing}
 use Rattle.listing.specs.steps.Page.{to_list, pages_left}
 use Rattle.listing.proofs.list.Given as goal
 
-abbrev pub invariant-loop-rule : goal.invariant-loop-rule
-invariant-loop-rule g l = (text : List ℕ) × Appends (g.W.Write.contents l.initial.out) (g.W.Write.contents l.out) text
+abbrev pub invariant-loop-next : goal.invariant-loop-next
+invariant-loop-next g l = (text : List ℕ) × Appends (g.W.Write.contents l.initial.out) (g.W.Write.contents l.out) text
     × (text ++ to_list (table_by l.manual) l.rule l.image l.next ≡ listing (table_by l.manual) l.rule l.image)
 
-abbrev pub decreases-loop-rule : goal.decreases-loop-rule
-decreases-loop-rule g l = pages_left l.image l.next
+abbrev pub decreases-loop-next : goal.decreases-loop-next
+decreases-loop-next g l = pages_left l.image l.next
