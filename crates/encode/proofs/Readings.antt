@@ -11,7 +11,7 @@ use Rattle.record.specs.declared.Record.{Record}
 use Rattle.record.specs.declared.Operand.TheVariants.{Nothing}
 use Rattle.record.specs.Same.{same_name, key}
 use Rattle.rows.specs.Row.{Table}
-use Rattle.rows.specs.Groups.{known, document01}
+use Rattle.rows.specs.Groups.{document01}
 use Rattle.by_manual.specs.Table.{by_manual, table_by}
 use Rattle.encode_rules.specs.Says.{Found, bytes, none}
 use Rattle.encode_rules.specs.steps.Search.{live}

@@ -1,11 +1,10 @@
 -- What choice a code or none tells; and what is found for a record with a third operand.
 -- Assumes nothing.
 use mathlib.Core.Path.{◌≡◌, refl, sym, ap, ◌∙◌}
-use mathlib.Core.Logic.{◌≢◌}
 use mathlib.Core.Bool.{Bool, true, false, false≢true}
-use lib.Dec.{ltb, eqb}
+use lib.Dec.{eqb}
 use borrow.Author.Tests.{eq-eqb}
-use Rattle.laws.specs.Choice.{pick, both}
+use Rattle.laws.specs.Choice.{pick}
 use Rattle.record.specs.declared.Key.{Key}
 use Rattle.record.specs.declared.Record.{Record}
 use Rattle.record.specs.declared.Operand.{Operand}
@@ -18,7 +17,7 @@ use Rattle.encode_rules.specs.Says.{bytes, none}
 use Rattle.encode_rules.specs.steps.Search.{bytes_by}
 use Rattle.encode_rules.specs.steps.Can.{can}
 use Rattle.encode_rules.specs.steps.Direct.{Choice, code, nothing, there, able, taken}
-use Rattle.encode_rules.proofs.Bools.{so, both_true, both_none, picked}
+use Rattle.encode_rules.proofs.Bools.{so, both_true, picked}
 use Rattle.encode_rules.proofs.Can.{parts}
 use Rattle.std.specs.Prelude.{Some, None}
 use Rattle.encode_choice.specs.steps.Coded.{coded}

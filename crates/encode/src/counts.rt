@@ -5,7 +5,7 @@ ghost use Rattle.encode.specs.steps.Slots.{size_of, count_of, limit_of};
 use record::Operand;
 
 #[derive(Clone, Copy)]
-pub struct Slot {
+pub(crate) struct Slot {
     pub count: u8,
     pub limit: u32,
     pub ghost short: { count ≤ 3 },

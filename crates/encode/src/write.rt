@@ -15,22 +15,11 @@ fn write_number(out: &mut [u8], at: usize, number: Number)
     requires { at + number.count ≤ length out.old }
     ensures { out.new ≡ put at (digits number.count number.value) out.old }
 {
-    let n = number.count;
-    let v = number.value;
-    if n == 0 {
-        return;
+    let mut rest = number.value;
+    for k in 0..usize::from(number.count) {
+        out[at + k] = (rest % 256) as u8;
+        rest /= 256;
     }
-    out[at] = (v % 256) as u8;
-    if n == 1 {
-        return;
-    }
-    let second = at + 1;
-    out[second] = (v / 256 % 256) as u8;
-    if n == 2 {
-        return;
-    }
-    let third = second + 1;
-    out[third] = (v / 256 / 256 % 256) as u8;
 }
 
 // A plan's bytes over the first of what is passed in.

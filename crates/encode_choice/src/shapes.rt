@@ -1,4 +1,5 @@
-// Codes that several opcodes have in common, by the high nibble h or the like; n is the code of an operand.
+// Codes that several opcodes have in common, by the high nibble h or the like; n is the code of an operand. (f ≤ 0xFE, so that the other byte of
+// its pair is one too, stays a premise here: of a type of its own every arm of choose_by would build a value.)
 #![tactic(auto, unfolding(record::specs::Same::same_name), using(record::proofs::Equal::equal))]
 
 ghost use Rattle.std.specs.Prelude.{◌≡◌, ◌≤◌, ◌+◌, ◌*◌, ◌/◌, ◌%◌};
@@ -20,7 +21,7 @@ fn word(w: Width) -> u8
     }
 }
 
-// The code of an operand in the low nibble, behind h. (In u64, as every second byte: of names that do not go together it may be more than a byte.)
+// The code of an operand in the low nibble, behind h. (A u64, as every second byte is: of names that do not go together it may be more than a byte.)
 pub fn nibbles(h: u8, o: Operand) -> u64
     ensures { result ≡ 16 * h + code_of o }
 {

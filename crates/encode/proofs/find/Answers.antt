@@ -2,17 +2,16 @@
 -- Assumes nothing.
 use mathlib.Core.Path.{◌≡◌, refl, sym, ap, ap₂, ◌∙◌}
 use mathlib.Core.Bool.{Bool, true, false, not, false≢true}
-use mathlib.Core.List.{[], ◌∷◌}
-use Rattle.std.specs.Prelude.{Option, Some, None}
+use mathlib.Core.List.{◌∷◌}
+use Rattle.std.specs.Prelude.{Option}
 use Rattle.laws.specs.Choice.{pick}
 use Rattle.record.specs.declared.Key.{Key}
 use Rattle.record.specs.declared.Record.{Record}
 use Rattle.record.specs.declared.Operand.TheVariants.{Nothing}
-use Rattle.record.specs.Same.{same_name, key}
+use Rattle.record.specs.Same.{key}
 use Rattle.record.proofs.Equal.{equal}
 use Rattle.by_manual.specs.Table.{table_by}
 use Rattle.encode_rules.specs.Says.{bytes, none}
-use Rattle.encode_rules.specs.steps.Direct.{code}
 use Rattle.encode_choice.specs.declared.Asked.{Asked}
 use Rattle.encode_choice.specs.steps.Choose as choice
 use Rattle.encode_choice.specs.steps.Coded.{coded}

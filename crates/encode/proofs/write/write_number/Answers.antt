@@ -1,34 +1,32 @@
--- `encode::write::write_number` meets its contract: its bytes, a place at a time.
+-- `encode::write::write_number` meets its contract: a byte at a time.
 -- Assumes nothing.
-use Prim.Native.Nat.{ℕ, ◌+◌, ◌≤◌}
-use mathlib.Core.Path.{◌≡◌, sym, ◌∙◌}
-use mathlib.Core.List.{List, [], ◌∷◌}
+use Prim.Native.Nat.{ℕ, suc, ◌+◌, ◌-◌, ◌/◌, ◌%◌, ◌<◌}
+use mathlib.Core.Path.{◌≡◌, sym, ap, ap₂, ◌∙◌}
+use mathlib.Core.List.{List}
 use native.Mathlib.Omega.{arith}
-use lib.ListN.{length, set, length-set}
+use lib.ListN.{length, set}
 use Rattle.laws.specs.Over.{put}
 use Rattle.laws.proofs.Over.{put_none, put_one}
+use Rattle.encode_rules.specs.steps.Digits.{digits}
 use Rattle.encode.proofs.write.write_number.Goals as goal
 
-one : (l : List ℕ) (at a : ℕ) → at + 1 ≤ length l → set l at a ≡ put at (a ∷ []) l
-one l at a h = sym (put_one at l a [] (omega arith) ∙ put_none (at + 1) (set l at a))
+step : (l : List ℕ) (at n v : ℕ) {m next : ℕ} → n ≡ suc m → next ≡ at + 1 → at < length l → put next (digits m (v / 256)) (set l at (v % 256)) ≡ put at (digits n v) l
+step l at n v {m} {next} e f h =
+    ap (λ a. put a (digits m (v / 256)) (set l at (v % 256))) f
+    ∙ sym (put_one at l (v % 256) (digits m (v / 256)) h)
+    ∙ ap (λ n. put at (digits n v) l) (sym e)
 
-two : (l : List ℕ) (at a b : ℕ) → at + 2 ≤ length l → set (set l at a) (at + 1) b ≡ put at (a ∷ b ∷ []) l
-two l at a b h = one (set l at a) (at + 1) b (simp length-set (omega arith)) ∙ sym (put_one at l a (b ∷ []) (omega arith))
+pub loop-k-init : goal.loop-k-init
+loop-k-init c = ap₂ (λ at n. put at (digits n c.args.number.value) c.args.out.now) (omega arith) (omega arith)
 
-three : (l : List ℕ) (at a b c : ℕ) → at + 3 ≤ length l → set (set (set l at a) (at + 1) b) (at + 1 + 1) c ≡ put at (a ∷ b ∷ c ∷ []) l
-three l at a b c h = two (set l at a) (at + 1) b c (simp length-set (omega arith)) ∙ sym (put_one at l a (b ∷ c ∷ []) (omega arith))
-
-pub returns-then-n-eq1 : goal.returns-then-n-eq1
-returns-then-n-eq1 c =
-    let e = c.if-n-eq1.true in
-    rw e (one c.args.out.now c.args.at _ (omega (arith, c.requires)))
-
-pub returns-then-n-eq2 : goal.returns-then-n-eq2
-returns-then-n-eq2 c =
-    let e = c.if-n-eq2.true in
-    rw e (two c.args.out.now c.args.at _ _ (omega (arith, c.requires)))
+pub loop-k-preserved : goal.loop-k-preserved
+loop-k-preserved c =
+    let n = c.from-k-end.ensures in
+    step c.loop-k.out (c.args.at + c.loop-k.k) (c.args.number.count - c.loop-k.k) c.loop-k.rest (omega (arith, n, c.loop-k-test.true)) (omega arith)
+    (omega (arith, n, c.loop-k-test.true, c.loop-k.auto.out, c.requires))
+    ∙ c.loop-k.invariant
 
 pub returns : goal.returns
 returns c =
-    let e : c.args.number.count ≡ 3 = omega (arith, c.args.number.short) in
-    rw e (three c.args.out.now c.args.at _ _ _ (omega (arith, c.requires)))
+    let none : c.args.number.count - c.loop-k.k ≡ 0 = omega (arith, c.from-k-end.ensures, c.loop-k-test.false) in
+    sym (ap (λ n. put (c.args.at + c.loop-k.k) (digits n c.loop-k.rest) c.loop-k.out) none ∙ put_none (c.args.at + c.loop-k.k) c.loop-k.out) ∙ c.loop-k.invariant
