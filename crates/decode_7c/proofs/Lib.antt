@@ -3,3 +3,4 @@ pub mod Table7D
 pub mod TableEB
 pub mod Table7C7D
 pub mod RowSteps
+pub mod AsRows

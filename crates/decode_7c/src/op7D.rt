@@ -27,7 +27,6 @@ fn jump_opcode(h: u8) -> Opcode
 }
 
 // JMPI and JSRI, marked from h = 2 on.
-#[tactic(auto, using(crate::proofs::RowSteps::steps), unfolding(rows::specs::Run::run_row, rows::specs::Rows::row, crate::specs::steps::Op7D::jump_by))]
 fn indirect(bs: &[u8], b: u8) -> Decoded
     ensures { answer_of result ≡ run_row (jump_by (b / 16) (b % 16)) bs.now }
 {
@@ -119,7 +118,6 @@ fn no_condition(n: u8) -> bool
 }
 
 // Jumps on a condition: one byte.
-#[tactic(auto, using(crate::proofs::RowSteps::steps, crate::proofs::Table7D::conditional_jumps), unfolding(rows::specs::Run::run_row, rows::specs::Rows::row))]
 fn jump(bs: &[u8], b: u8) -> Decoded
     ensures { answer_of result ≡ run_row (row_7DC (b % 16)) bs.now }
 {
@@ -156,7 +154,6 @@ const CONDITIONS: [Opcode; 16] = [
 ];
 
 // A condition by n; GE, NO and LT are marked.
-#[tactic(auto, using(crate::proofs::RowSteps::steps, crate::proofs::Table7D::conditions), unfolding(rows::specs::Run::run_row, rows::specs::Rows::row))]
 fn conditional(b: u8) -> Decoded
     ensures { (bs : List ℕ) → answer_of result ≡ run_row (row_7DD (b % 16)) bs }
 {
@@ -173,7 +170,6 @@ fn conditional(b: u8) -> Decoded
 }
 
 // h = F, by n.
-#[tactic(auto, using(crate::proofs::RowSteps::steps), unfolding(rows::specs::Run::run_row, rows::specs::Rows::row, rows::specs::Rows::row_7DF))]
 fn row_F(bs: &[u8], b: u8) -> Decoded
     ensures { answer_of result ≡ run_row (row_7DF (b % 16)) bs.now }
 {
@@ -198,7 +194,6 @@ fn row_F(bs: &[u8], b: u8) -> Decoded
     Ok(face.with(BEGIN))
 }
 
-#[tactic(auto, using(crate::proofs::RowSteps::steps), unfolding(rows::specs::Run::run_row, rows::specs::Rows::row, rows::specs::Rows::row_7D, crate::specs::steps::Op7D::jump_by))]
 pub fn decode_op7D(bs: &[u8], b: u8) -> Decoded
     ensures { answer_of result ≡ run_row (row_7D (b / 16) (b % 16)) bs.now }
 {
