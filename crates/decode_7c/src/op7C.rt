@@ -22,7 +22,6 @@ const MOVES: [Opcode; 4] = [Opcode::MOVLL, Opcode::MOVLH, Opcode::MOVHL, Opcode:
 const MIXED: [bool; 4] = [false, true, true, false];
 
 // where it gives the code a meaning: not with R0L, A0, A1.
-#[tactic(auto, using(crate::proofs::Table7C::meant), unfolding(rows::specs::Run::run_row, rows::specs::Rows::row))]
 fn nibble_mark(b: u8) -> bool
     ensures { result ≡ nibble_mark (b / 16) (b % 16) }
 {
@@ -31,7 +30,6 @@ fn nibble_mark(b: u8) -> bool
 }
 
 // MOVLL and the like: from G(n) to R0L below h = 8, else from R0L to G(n).
-#[tactic(auto, using(readers::proofs::RowSteps::steps), unfolding(rows::specs::Run::run_row, rows::specs::Rows::row, crate::specs::steps::Op7C::nibble))]
 fn move_nibble(bs: &[u8], b: u8) -> Decoded
     ensures { answer_of result ≡ run_row (nibble (b / 16) (b % 16)) bs.now }
 {
@@ -54,7 +52,6 @@ fn move_nibble(bs: &[u8], b: u8) -> Decoded
 }
 
 // EXTS.B has no R0H, R1H, A0, A1.
-#[tactic(auto, using(readers::proofs::RowSteps::steps, crate::proofs::Table7C::no_exts_lem), unfolding(rows::specs::Run::run_row, rows::specs::Rows::row))]
 fn extend_byte(bs: &[u8], b: u8) -> Decoded
     ensures { answer_of result ≡ run_row (exts (b % 16)) bs.now }
 {
@@ -89,7 +86,6 @@ fn extend_pair(bs: &[u8], b: u8) -> Decoded
 }
 
 // ENTER: one byte.
-#[tactic(auto, using(readers::proofs::RowSteps::steps), unfolding(rows::specs::Run::run_row, rows::specs::Rows::row, rows::specs::Rows::row_7CF))]
 fn enter(bs: &[u8]) -> Decoded
     ensures { answer_of result ≡ run_row (row_7CF 2) bs.now }
 {
@@ -103,7 +99,6 @@ fn enter(bs: &[u8]) -> Decoded
 }
 
 // h = F, by n.
-#[tactic(auto, using(readers::proofs::RowSteps::steps), unfolding(rows::specs::Run::run_row, rows::specs::Rows::row, rows::specs::Rows::row_7CF))]
 fn row_F(bs: &[u8], b: u8) -> Decoded
     ensures { answer_of result ≡ run_row (row_7CF (b % 16)) bs.now }
 {
@@ -126,7 +121,6 @@ fn row_F(bs: &[u8], b: u8) -> Decoded
     Ok(face.with(BEGIN))
 }
 
-#[tactic(auto, using(readers::proofs::RowSteps::steps), unfolding(rows::specs::Run::run_row, rows::specs::Rows::row, rows::specs::Rows::row_7C))]
 pub fn decode_op7C(bs: &[u8], b: u8) -> Decoded
     ensures { answer_of result ≡ run_row (row_7C (b / 16) (b % 16)) bs.now }
 {

@@ -2,7 +2,7 @@ ghost use Rattle.std.specs.Prelude.{◌≡◌, List, ℕ, ◌/◌, ◌%◌};
 ghost use Rattle.record.specs.Answer.{answer_of};
 ghost use Rattle.rows.specs.Rows.{add_SP, ldipl, pusha, row_7D, row_7DC, row_7DD, row_7DF};
 ghost use Rattle.rows.specs.Run.{run_row};
-ghost use Rattle.decode_7c.specs.steps.Op7D.{opcode_J, jump_by, no_condition};
+ghost use Rattle.decode_7c.specs.steps.Op7D.{opcode_J, jump_by};
 
 use crate::shared;
 use readers::answer::{self, BEGIN, Decoded, Face};
@@ -27,7 +27,6 @@ fn jump_opcode(h: u8) -> Opcode
 }
 
 // JMPI and JSRI, marked from h = 2 on.
-#[tactic(auto, using(readers::proofs::RowSteps::steps), unfolding(rows::specs::Run::run_row, rows::specs::Rows::row, crate::specs::steps::Op7D::jump_by))]
 fn indirect(bs: &[u8], b: u8) -> Decoded
     ensures { answer_of result ≡ run_row (jump_by (b / 16) (b % 16)) bs.now }
 {
@@ -99,73 +98,68 @@ fn add_stack(b: u8) -> Decoded
     Ok(face.with(answer::begin((b % 16 % 8) as u32)))
 }
 
-// From code 8 on; NOP stands at the two codes that are refused.
-const JUMPS: [Opcode; 8] = [
-    Opcode::JLE,
-    Opcode::JO,
-    Opcode::JGE,
-    Opcode::NOP,
-    Opcode::JGT,
-    Opcode::JNO,
-    Opcode::JLT,
-    Opcode::NOP,
+// From code 8 on; B and F name no condition.
+const JUMPS: [Option<Opcode>; 8] = [
+    Some(Opcode::JLE),
+    Some(Opcode::JO),
+    Some(Opcode::JGE),
+    None,
+    Some(Opcode::JGT),
+    Some(Opcode::JNO),
+    Some(Opcode::JLT),
+    None,
 ];
 
-// B and F name no condition.
-fn no_condition(n: u8) -> bool
-    ensures { result ≡ no_condition n }
-{
-    set::has(0x8800, n)
-}
-
 // Jumps on a condition: one byte.
-#[tactic(auto, using(readers::proofs::RowSteps::steps, crate::proofs::Table7D::conditional_jumps), unfolding(rows::specs::Run::run_row, rows::specs::Rows::row))]
 fn jump(bs: &[u8], b: u8) -> Decoded
     ensures { answer_of result ≡ run_row (row_7DC (b % 16)) bs.now }
 {
     let n = b % 16;
-    if n < 8 || no_condition(n) {
+    if n < 8 {
         return answer::refuse(Refusal::InvalidOpcode, 2);
     }
+    let Some(opcode) = JUMPS[(n % 8) as usize] else {
+        return answer::refuse(Refusal::InvalidOpcode, 2);
+    };
     let s = numbers::imm_byte(bs, BEGIN)?;
     let face = Face {
-        opcode: JUMPS[(n % 8) as usize],
+        opcode,
         op0: Operand::Disp8,
         ..AT_W
     };
     Ok(face.with(s))
 }
 
-const CONDITIONS: [Opcode; 16] = [
-    Opcode::BMGEU,
-    Opcode::BMGTU,
-    Opcode::BMEQ,
-    Opcode::BMN,
-    Opcode::BMLTU,
-    Opcode::BMLEU,
-    Opcode::BMNE,
-    Opcode::BMPZ,
-    Opcode::BMLE,
-    Opcode::BMO,
-    Opcode::GE,
-    Opcode::NOP,
-    Opcode::BMGT,
-    Opcode::NO,
-    Opcode::LT,
-    Opcode::NOP,
+// As the jumps, B and F name no condition.
+const CONDITIONS: [Option<Opcode>; 16] = [
+    Some(Opcode::BMGEU),
+    Some(Opcode::BMGTU),
+    Some(Opcode::BMEQ),
+    Some(Opcode::BMN),
+    Some(Opcode::BMLTU),
+    Some(Opcode::BMLEU),
+    Some(Opcode::BMNE),
+    Some(Opcode::BMPZ),
+    Some(Opcode::BMLE),
+    Some(Opcode::BMO),
+    Some(Opcode::GE),
+    None,
+    Some(Opcode::BMGT),
+    Some(Opcode::NO),
+    Some(Opcode::LT),
+    None,
 ];
 
 // A condition by n; GE, NO and LT are marked.
-#[tactic(auto, using(readers::proofs::RowSteps::steps, crate::proofs::Table7D::conditions), unfolding(rows::specs::Run::run_row, rows::specs::Rows::row))]
 fn conditional(b: u8) -> Decoded
     ensures { (bs : List ℕ) → answer_of result ≡ run_row (row_7DD (b % 16)) bs }
 {
     let n = b % 16;
-    if no_condition(n) {
+    let Some(opcode) = CONDITIONS[n as usize] else {
         return answer::refuse(Refusal::InvalidOpcode, 2);
-    }
+    };
     let face = Face {
-        opcode: CONDITIONS[n as usize],
+        opcode,
         marked: set::has(0x6400, n),
         ..AT_W
     };
@@ -173,7 +167,6 @@ fn conditional(b: u8) -> Decoded
 }
 
 // h = F, by n.
-#[tactic(auto, using(readers::proofs::RowSteps::steps), unfolding(rows::specs::Run::run_row, rows::specs::Rows::row, rows::specs::Rows::row_7DF))]
 fn row_F(bs: &[u8], b: u8) -> Decoded
     ensures { answer_of result ≡ run_row (row_7DF (b % 16)) bs.now }
 {
@@ -198,7 +191,6 @@ fn row_F(bs: &[u8], b: u8) -> Decoded
     Ok(face.with(BEGIN))
 }
 
-#[tactic(auto, using(readers::proofs::RowSteps::steps), unfolding(rows::specs::Run::run_row, rows::specs::Rows::row, rows::specs::Rows::row_7D, crate::specs::steps::Op7D::jump_by))]
 pub fn decode_op7D(bs: &[u8], b: u8) -> Decoded
     ensures { answer_of result ≡ run_row (row_7D (b / 16) (b % 16)) bs.now }
 {

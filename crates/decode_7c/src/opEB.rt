@@ -13,7 +13,6 @@ use record::refusal::Refusal;
 use record::{Opcode, Operand, Size, Width};
 
 // LDC Imm16: the control register is judged before the two bytes.
-#[tactic(auto, using(readers::proofs::RowSteps::steps), unfolding(rows::specs::Run::run_row, rows::specs::Rows::row, rows::specs::Rows::row_EB_low))]
 fn load_control(bs: &[u8], b: u8) -> Decoded
     ensures { answer_of result ≡ run_row (row_EB_low (b / 16 % 8) 0) bs.now }
 {
@@ -99,7 +98,6 @@ fn move_address(bs: &[u8], b: u8) -> Decoded
 }
 
 // h below 8, by n.
-#[tactic(auto, using(readers::proofs::RowSteps::steps), unfolding(rows::specs::Run::run_row, rows::specs::Rows::row, rows::specs::Rows::row_EB_low))]
 fn row_low(bs: &[u8], b: u8) -> Decoded
     ensures { answer_of result ≡ run_row (row_EB_low (b / 16 % 8) (b % 16)) bs.now }
 {
@@ -122,7 +120,7 @@ fn row_low(bs: &[u8], b: u8) -> Decoded
     }
 }
 
-#[tactic(auto, using(readers::proofs::RowSteps::steps), unfolding(rows::specs::Run::run_row, rows::specs::Rows::row, rows::specs::Rows::row_EB))]
+#[tactic(auto, using(crate::proofs::AsRows::as_rows), unfolding(rows::specs::Run::run_row, rows::specs::Rows::row, rows::specs::Rows::row_EB))]
 pub fn decode_opEB(bs: &[u8], b: u8) -> Decoded
     ensures { answer_of result ≡ run_row (row_EB (b / 16) (b % 16)) bs.now }
 {

@@ -105,7 +105,6 @@ fn to_E(byte: bool, decimal: bool, n: u8) -> Operand
 }
 
 // h = E, by n.
-#[tactic(auto, using(readers::proofs::RowSteps::steps, crate::proofs::Table7C7D::tables_E), unfolding(rows::specs::Run::run_row, rows::specs::Rows::row, crate::specs::steps::Shared::table_E))]
 pub fn row_E(bs: &[u8], byte: bool, b: u8) -> Decoded
     ensures { answer_of result ≡ run_row (row_E (width_of byte) (b % 16)) bs.now }
 {
@@ -136,7 +135,6 @@ pub fn row_E(bs: &[u8], byte: bool, b: u8) -> Decoded
 }
 
 // LDCTX and STCTX: two bytes, then three.
-#[tactic(auto, using(readers::proofs::RowSteps::steps, readers::proofs::RowSteps::second_read), unfolding(rows::specs::Run::run_row, rows::specs::Rows::row))]
 pub fn load_context(bs: &[u8], byte: bool, opcode: Opcode) -> Decoded
     ensures { answer_of result ≡ run_row (context opcode (width_of byte)) bs.now }
 {
