@@ -46,8 +46,8 @@ fn main(rt: HostRuntime) -> io::Result<()> {
     let mut second = [0u8; 16];
     let m = word(&rt, 2, &mut second);
     match asked::by_words(word_count(&rt), &first[..n], &second[..m]) {
-        Asked::By(manual, rule) => list(manual, rule, &mut rt.stdin(), &mut rt.stdout()),
-        Asked::Unknown => eprintln!(rt;
+        Some(Asked { manual, rule }) => list(manual, rule, &mut rt.stdin(), &mut rt.stdout()),
+        None => eprintln!(rt;
             "list_image: an image comes from standard input, the only arguments are --stopping and, behind it or alone, --manual"
         ),
     }

@@ -2,17 +2,9 @@
 // first. An odd byte stops at a refused place; from 2 on it is by the manual. The gate runs it on stored examples.
 #![tactic(auto)]
 
-ghost use Rattle.std.specs.Prelude.{◌<◌};
-
 use std::io;
 use std::io::Write;
 use sweep::Rule;
-
-fn wide(b: u8) -> usize
-    ensures { result < 256 }
-{
-    b as usize
-}
 
 fn rule_of(b: u8) -> Rule {
     if b % 2 == 0 {
@@ -23,16 +15,14 @@ fn rule_of(b: u8) -> Rule {
 
 // An image that is cut short ends it.
 fn list_all<W: Write>(text: &[u8], out: &mut W) -> io::Result<()> {
-    let mut at: usize = 0;
-    while 3 <= text.len() - at {
-        let start = at + 3;
-        let size = 256 * wide(text[at + 1]) + wide(text[at + 2]);
-        if text.len() - start < size {
+    let mut rest = text;
+    while let [how, high, low, behind @ ..] = rest {
+        let size = 256 * usize::from(*high) + usize::from(*low);
+        let Some((image, left)) = behind.split_at_checked(size) else {
             return Ok(());
-        }
-        let end = start + size;
-        listing::list(2 <= text[at], rule_of(text[at]), &text[start..end], out)?;
-        at = end;
+        };
+        listing::list(2 <= *how, rule_of(*how), image, out)?;
+        rest = left;
     }
     Ok(())
 }

@@ -22,20 +22,15 @@ fn tell<W: Write>(bytes: &[u8], out: &mut W) -> io::Result<()> {
 fn count_of(b: u8) -> usize
     ensures { result ≤ 2 }
 {
-    if b < 2 {
-        return b as usize;
-    }
-    2
+    usize::from(b.min(2))
 }
 
 // A question that is cut short ends it.
 fn tell_all<W: Write>(text: &[u8], out: &mut W) -> io::Result<()> {
-    let mut at: usize = 0;
-    while 3 <= text.len() - at {
-        let start = at + 1;
-        let end = start + count_of(text[at]);
-        tell(&text[start..end], out)?;
-        at = at + 3;
+    let mut rest = text;
+    while let [count, first, second, left @ ..] = rest {
+        tell(&[*first, *second][..count_of(*count)], out)?;
+        rest = left;
     }
     Ok(())
 }
