@@ -34,6 +34,7 @@ fn turns(o: Operand) -> bool
 }
 
 // Operand 0's, of no bytes if it is part of the code.
+#[tactic(auto, using(crate::proofs::Narrowed::whole_base))]
 fn number0(q: Asked, slot: Slot, k: Key) -> Number
     ensures { (result.count ≡ pick (whole_row (face_by q)) 0 slot.count) × (result.value ≡ k.number0) }
 {
