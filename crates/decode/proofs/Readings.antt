@@ -1,16 +1,12 @@
 -- The two readings know the same first bytes, of which every changed code has one; and which row a code has in each.
 -- Assumes nothing.
 use Prim.Native.Nat.{ℕ, ◌/◌, ◌%◌, ◌<◌}
-use mathlib.Core.Path.{◌≡◌, refl, sym, ap, ◌∙◌}
-use mathlib.Core.Logic.{◌⊎◌, inl, inr}
-use mathlib.Core.List.{List}
+use mathlib.Core.Path.{◌≡◌, refl, sym, ◌∙◌}
 use mathlib.Core.Bool.{Bool, true, false, false≢true}
-use Rattle.laws.specs.Choice.{pick}
+use Rattle.laws.specs.Choice.{pick, both}
 use Rattle.laws.proofs.Agree.{agree}
-use Rattle.record.specs.Answer.{Answer}
 use Rattle.rows.specs.Row.{Row}
 use Rattle.rows.specs.Groups.{known, document01}
-use Rattle.rows.specs.Run.{run_row}
 use Rattle.by_manual.specs.Changed.{Change, stays, becomes, change_at}
 use Rattle.by_manual.specs.Lists.{is_changed}
 use Rattle.by_manual.specs.Table.{changed, by_manual, table_by}
@@ -51,17 +47,13 @@ row_by_lem false a b = by (change_at a (b / 16) (b % 16))
     by stays = refl
     by (becomes w) = refl
 
+-- a changed row, if the manual's reading is meant
+pub chosen : (c : Change) (m : Bool) (r : Row) → row_by c m r ≡ pick (both m (is_changed c)) (new_row c) r
+chosen stays true r = refl
+chosen stays false r = refl
+chosen (becomes w) true r = refl
+chosen (becomes w) false r = refl
+
 pub row_own : (c : Change) (m : Bool) (r : Row) → is_changed c ≡ false → r ≡ row_by c m r
 row_own stays m r e = refl
 row_own (becomes w) m r e = absurd (false≢true (sym e))
-
--- what stands at a code by a changed row, if the manual's reading is meant, and by the group's own in all other cases
-module _ (m : Bool) (r : Row) (bs : List ℕ) {x : Answer} where
-  pub by_new : (c : Change) (w : Row) → m ≡ true → is_changed c ≡ true → (is_changed c ≡ true → w ≡ new_row c) → x ≡ run_row w bs → x ≡ run_row (row_by c m r) bs
-  by_new stays w manual new e told = absurd (false≢true new)
-  by_new (becomes v) w manual new e told = rw manual (told ∙ ap (λ u. run_row u bs) (e new))
-
-  pub by_own : (c : Change) → (m ≡ false) ⊎ (is_changed c ≡ false) → x ≡ run_row r bs → x ≡ run_row (row_by c m r) bs
-  by_own (becomes w) (inl e) told = rw e told
-  by_own stays (inl e) told = told
-  by_own c (inr e) told = told ∙ ap (λ u. run_row u bs) (row_own c m r e)

@@ -63,6 +63,7 @@ pub fn decode_few(image: &[u8], at: usize) -> Decoded
 pub fn decode_by(manual: bool, image: &[u8], at: usize) -> Decoded
     ensures { answer_of result ≡ decode_by (table_by manual) (drop at image.now) }
 {
+    // (A test, and no `get`: the edit test_reversed turns it round.)
     if image.len() < at {
         return decode_few(image, at);
     }

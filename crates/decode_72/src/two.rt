@@ -36,6 +36,7 @@ fn opcode_of(a: u8) -> Opcode
 }
 
 // Source and destination: the source's bytes are read first.
+#[tactic(auto, using(readers::proofs::RowSteps::steps, readers::proofs::RowSteps::second_behind_general, readers::proofs::Nibble::named_high), unfolding(rows::specs::Run::run_row, rows::specs::Rows::row, rows::specs::Pairs::two))]
 pub fn decode_two(bs: &[u8], a: u8, b: u8) -> Decoded
     ensures { answer_of result ≡ run_row (two (opcode_of a) (width_of (eqb (a % 2) 0)) (b / 16) (b % 16)) bs.now }
 {

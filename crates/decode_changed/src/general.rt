@@ -6,7 +6,7 @@ ghost use Rattle.readers.specs.steps.Width.{width_of};
 ghost use Rattle.by_manual.specs.Changed.{to_stack, alone, ldc, name_JW, word_jump};
 ghost use Rattle.decode_changed.specs.steps.Rows.{alone_opcode, jump_opcode, mul_opcode, mul_size, mul_at};
 
-use crate::BLANK;
+use crate::NAMELESS;
 use readers::answer::{Decoded, Face};
 use readers::{answer, control, general, long, mul, numbers};
 use record::refusal::Refusal;
@@ -25,7 +25,7 @@ pub fn to_stack(bs: &[u8], byte: bool, b: u8) -> Decoded
         width: answer::width_of(byte),
         op0: source,
         op1: Operand::Disp8_SP,
-        ..BLANK
+        ..NAMELESS
     };
     Ok(face.with(t))
 }
@@ -51,7 +51,7 @@ pub fn alone(bs: &[u8], byte: bool, b: u8) -> Decoded
         size: answer::size_of(byte),
         width: answer::width_of(byte),
         op0: name,
-        ..BLANK
+        ..NAMELESS
     };
     Ok(face.with(s))
 }
@@ -69,7 +69,7 @@ pub fn load_control(bs: &[u8], b: u8) -> Decoded
         width: Width::B,
         op0: general::general_name(false, b),
         op1: control::control_name(b / 16),
-        ..BLANK
+        ..NAMELESS
     };
     Ok(face.with(s))
 }
@@ -91,7 +91,6 @@ fn mul_size(byte: bool, h: u8) -> Size
 }
 
 // 7C/7D 4n MULU, 5n MUL: G(n) is judged and read, then the immediate.
-#[tactic(auto, unfolding(rows::specs::Run::run_row, rows::specs::Run::run, rows::specs::Rows::row))]
 pub fn mul_immediate(bs: &[u8], byte: bool, b: u8) -> Decoded
     ensures { answer_of result ≡ run_row (mul_at (width_of byte) (b / 16) (b % 16)) bs.now }
 {
@@ -106,7 +105,7 @@ pub fn mul_immediate(bs: &[u8], byte: bool, b: u8) -> Decoded
         width: answer::width_of(byte),
         op0: numbers::immediate_name(byte),
         op1: general::general_name(byte, b),
-        ..BLANK
+        ..NAMELESS
     };
     Ok(face.with(t))
 }
@@ -127,7 +126,7 @@ fn word_name(b: u8) -> Operand
     general::general_name(false, b)
 }
 
-// 7D 2n JMPI.W, 3n JSRI.W.
+// 7D 2n JMPI.W, 3n JSRI.W. The bytes are passed anew, as to the groups of 76 and 78 (docs/DECISIONS.md).
 pub(crate) fn word_jump(bs: &[u8], b: u8) -> Decoded
     ensures { answer_of result ≡ run_row (word_jump (jump_opcode (b / 16)) (b % 16)) bs.now }
 {
@@ -137,7 +136,7 @@ pub(crate) fn word_jump(bs: &[u8], b: u8) -> Decoded
         size: Size::W,
         width: Width::W,
         op0: word_name(b),
-        ..BLANK
+        ..NAMELESS
     };
     Ok(face.with(s))
 }

@@ -1,6 +1,6 @@
 // The rows that request A9 changes to the manual's: at which codes they stand, and what stands behind these, by the second byte b.
 
-#![tactic(auto)]
+#![tactic(auto, using(readers::proofs::RowSteps::steps, readers::proofs::RowSteps::second_behind_general), unfolding(rows::specs::Run::run_row, rows::specs::Rows::row))]
 
 pub mod asked; // whether a code has one
 pub mod general; // those that read G(n)
@@ -14,8 +14,8 @@ ghost use Rattle.decode_changed.specs.steps.Rows.{row_7D, row_of};
 use readers::answer::{Decoded, Face};
 use record::{Opcode, Operand, Size, Width};
 
-// What a row names that names nothing. No row of this crate is marked.
-const BLANK: Face = Face {
+// A row that names nothing. Each row says what it has in place of this; none of them is marked.
+const NAMELESS: Face = Face {
     opcode: Opcode::NOP,
     size: Size::None,
     width: Width::None,

@@ -1,5 +1,4 @@
 // The rows that read nothing: their number, if they have one, is part of the code.
-#![tactic(auto, unfolding(rows::specs::Run::run_row, rows::specs::Run::run, rows::specs::Rows::row))]
 
 ghost use Rattle.std.specs.Prelude.{◌≡◌, List, ℕ, ◌/◌, ◌%◌, ◌<◌};
 ghost use Rattle.record.specs.Answer.{answer_of};
@@ -8,7 +7,7 @@ ghost use Rattle.rows.specs.Run.{run_row};
 ghost use Rattle.by_manual.specs.Changed.{add_SP, flag, ldipl};
 ghost use Rattle.decode_changed.specs.steps.Rows.{signed4, condition_opcode, flag_opcode};
 
-use crate::BLANK;
+use crate::NAMELESS;
 use readers::answer;
 use readers::answer::{Decoded, Face};
 use record::refusal::Refusal;
@@ -26,7 +25,7 @@ pub(crate) fn load_level(b: u8) -> Decoded
         opcode: Opcode::LDIPL,
         width: Width::W,
         op0: Operand::Imm8,
-        ..BLANK
+        ..NAMELESS
     };
     Ok(face.with(answer::begin(u32::from(n))))
 }
@@ -52,7 +51,7 @@ pub(crate) fn add_stack(b: u8) -> Decoded
         width: Width::W,
         op0: Operand::Imm8,
         op1: Operand::SP,
-        ..BLANK
+        ..NAMELESS
     };
     Ok(face.with(answer::begin(sign_extend(b % 16))))
 }
@@ -74,7 +73,7 @@ pub(crate) fn condition(b: u8) -> Decoded
     let face = Face {
         opcode: condition_opcode(b % 16),
         width: Width::W,
-        ..BLANK
+        ..NAMELESS
     };
     Ok(face.with(answer::BEGIN))
 }
@@ -92,7 +91,7 @@ pub fn flag(b: u8) -> Decoded
     let face = Face {
         opcode: flag_opcode(b % 16),
         op0: Operand::Imm4,
-        ..BLANK
+        ..NAMELESS
     };
     Ok(face.with(answer::begin(u32::from(b / 16))))
 }
