@@ -6,7 +6,7 @@ ghost use Rattle.rows.specs.Rows.{xchg};
 ghost use Rattle.rows.specs.Run.{run_row};
 ghost use Rattle.readers.specs.steps.Width.{width_of};
 
-use readers::answer::{Decoded, Face};
+use readers::answer::{Decoded, Face, NAMELESS};
 use readers::{answer, general};
 use record::Opcode;
 
@@ -21,7 +21,7 @@ pub fn exchange(bs: &[u8], byte: bool, b: u8) -> Decoded
         width: answer::width_of(byte),
         op0: general::general_name(byte, b / 16),
         op1: general::general_name(byte, b),
-        marked: false,
+        ..NAMELESS
     };
     Ok(face.with(s))
 }

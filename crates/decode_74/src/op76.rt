@@ -9,7 +9,7 @@ ghost use Rattle.rows.specs.Run.{run_row};
 ghost use Rattle.readers.specs.steps.Width.{width_of};
 ghost use Rattle.decode_74.specs.steps.Op76.{unary76, immediate76, both76};
 
-use readers::answer::{Decoded, Face};
+use readers::answer::{Decoded, Face, NAMELESS};
 use readers::{answer, general, numbers, set};
 use record::{Opcode, Operand, Size};
 
@@ -53,8 +53,7 @@ fn unary_76(bs: &[u8], byte: bool, b: u8) -> Decoded
         size: unary_size(byte, h),
         width: answer::width_of(byte),
         op0: general::general_name(byte, b),
-        op1: Operand::Nothing,
-        marked: false,
+        ..NAMELESS
     };
     Ok(face.with(s))
 }

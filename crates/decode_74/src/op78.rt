@@ -6,10 +6,10 @@ ghost use Rattle.rows.specs.Rows.{row78};
 ghost use Rattle.rows.specs.Run.{run_row};
 ghost use Rattle.readers.specs.steps.Width.{width_of};
 
-use readers::answer::{Decoded, Face};
+use readers::answer::{Decoded, Face, NAMELESS};
 use readers::{answer, general, mul};
 use record::refusal::Refusal;
-use record::{Opcode, Size};
+use record::Opcode;
 
 // MUL: the source is read before the destination is judged.
 pub fn decode_op78(bs: &[u8], byte: bool, b: u8) -> Decoded
@@ -22,11 +22,10 @@ pub fn decode_op78(bs: &[u8], byte: bool, b: u8) -> Decoded
     let t = general::general(bs, s, b % 16)?;
     let face = Face {
         opcode: Opcode::MUL,
-        size: Size::None,
         width: answer::width_of(byte),
         op0: general::general_name(byte, b / 16),
         op1: general::general_name(byte, b),
-        marked: false,
+        ..NAMELESS
     };
     Ok(face.with(t))
 }

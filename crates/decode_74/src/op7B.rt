@@ -6,7 +6,7 @@ ghost use Rattle.rows.specs.Rows.{stc, row_7B};
 ghost use Rattle.rows.specs.Run.{run_row};
 
 use crate::exchange;
-use readers::answer::{Decoded, Face};
+use readers::answer::{Decoded, Face, NAMELESS};
 use readers::{answer, control, general};
 use record::refusal::Refusal;
 use record::{Opcode, Size, Width};
@@ -21,11 +21,10 @@ fn store_control(bs: &[u8], b: u8) -> Decoded
     let s = general::general(bs, answer::BEGIN, b % 16)?;
     let face = Face {
         opcode: Opcode::STC,
-        size: Size::None,
         width: Width::W,
         op0: general::general_name(false, b),
         op1: control::control_name(b / 16),
-        marked: false,
+        ..NAMELESS
     };
     Ok(face.with(s))
 }

@@ -9,7 +9,7 @@ ghost use Rattle.rows.specs.Rows.{row_7E};
 ghost use Rattle.rows.specs.Run.{accepted, run, run_row};
 ghost use Rattle.decode_74.specs.steps.Op7E.{bit_face};
 
-use readers::answer::{Decoded, Face};
+use readers::answer::{Decoded, Face, NAMELESS};
 use readers::{answer, bit};
 use record::refusal::Refusal;
 use record::{Opcode, Operand, Record, Seen, Size, Width};
@@ -58,11 +58,8 @@ fn bit_row(opcode: Opcode, name: Operand, s: Seen) -> Record
 {
     let face = Face {
         opcode,
-        size: Size::None,
-        width: Width::None,
         op0: name,
-        op1: Operand::Nothing,
-        marked: false,
+        ..NAMELESS
     };
     face.with(s)
 }

@@ -5,7 +5,7 @@ ghost use Rattle.rows.specs.Run.{run_row};
 ghost use Rattle.decode_7c.specs.steps.Op7C.{nibble_mark, nibble};
 
 use crate::shared;
-use readers::answer::{self, BEGIN, Decoded, Face};
+use readers::answer::{self, BEGIN, Decoded, Face, NAMELESS};
 use readers::{general, long, numbers, set};
 use record::refusal::Refusal;
 use record::{Opcode, Operand, Size, Width};
@@ -13,7 +13,7 @@ use record::{Opcode, Operand, Size, Width};
 // The rows of 7C are at width B, those of 7D at W.
 const AT_B: Face = Face {
     width: Width::B,
-    ..shared::NAMELESS
+    ..NAMELESS
 };
 
 const MOVES: [Opcode; 4] = [Opcode::MOVLL, Opcode::MOVLH, Opcode::MOVHL, Opcode::MOVHH];

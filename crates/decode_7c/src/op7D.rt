@@ -5,7 +5,7 @@ ghost use Rattle.rows.specs.Run.{run_row};
 ghost use Rattle.decode_7c.specs.steps.Op7D.{opcode_J, jump_by};
 
 use crate::shared;
-use readers::answer::{self, BEGIN, Decoded, Face};
+use readers::answer::{self, BEGIN, Decoded, Face, NAMELESS};
 use readers::{general, long, numbers, set};
 use record::refusal::Refusal;
 use record::{Opcode, Operand, Size, Width};
@@ -13,7 +13,7 @@ use record::{Opcode, Operand, Size, Width};
 // The rows of 7D are at width W, those of 7C at B.
 const AT_W: Face = Face {
     width: Width::W,
-    ..shared::NAMELESS
+    ..NAMELESS
 };
 
 fn jump_opcode(h: u8) -> Opcode

@@ -6,8 +6,7 @@ ghost use Rattle.rows.specs.Codes.{name_K, K};
 ghost use Rattle.rows.specs.Rows.{bare, star_if, long_shift, shift_opcode, shift_pair, mova, row_EB_low, row_EB};
 ghost use Rattle.rows.specs.Run.{run_row};
 
-use crate::shared::NAMELESS;
-use readers::answer::{self, BEGIN, Decoded, Face};
+use readers::answer::{self, BEGIN, Decoded, Face, NAMELESS};
 use readers::{control, general, numbers};
 use record::refusal::Refusal;
 use record::{Opcode, Operand, Size, Width};

@@ -6,20 +6,10 @@ ghost use Rattle.rows.specs.Run.{run_row};
 ghost use Rattle.readers.specs.steps.Width.{width_of};
 ghost use Rattle.decode_7c.specs.steps.Shared.{mul_by, size_E, from_E, to_E};
 
-use readers::answer::{self, BEGIN, Decoded, Face};
+use readers::answer::{self, BEGIN, Decoded, Face, NAMELESS};
 use readers::{mul, numbers, set};
 use record::refusal::Refusal;
 use record::{Opcode, Operand, Size, Width};
-
-// A row that names nothing. Each row says what it has in place of this.
-pub const NAMELESS: Face = Face {
-    opcode: Opcode::NOP,
-    size: Size::None,
-    width: Width::None,
-    op0: Operand::Nothing,
-    op1: Operand::Nothing,
-    marked: false,
-};
 
 // MULU and MUL with an immediate: the destination is judged by n, and is A0 or A1 all the same.
 pub fn mul_immediate(bs: &[u8], byte: bool, unsigned: bool, b: u8) -> Decoded

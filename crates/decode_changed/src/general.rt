@@ -6,8 +6,7 @@ ghost use Rattle.readers.specs.steps.Width.{width_of};
 ghost use Rattle.by_manual.specs.Changed.{to_stack, alone, ldc, name_JW, word_jump};
 ghost use Rattle.decode_changed.specs.steps.Rows.{alone_opcode, jump_opcode, mul_opcode, mul_size, mul_at};
 
-use crate::NAMELESS;
-use readers::answer::{Decoded, Face};
+use readers::answer::{Decoded, Face, NAMELESS};
 use readers::{answer, control, general, long, mul, numbers};
 use record::refusal::Refusal;
 use record::{Opcode, Operand, Size, Width};

@@ -14,16 +14,6 @@ ghost use Rattle.decode_changed.specs.steps.Rows.{row_7D, row_of};
 use readers::answer::{Decoded, Face};
 use record::{Opcode, Operand, Size, Width};
 
-// A row that names nothing. Each row says what it has in place of this; none of them is marked.
-const NAMELESS: Face = Face {
-    opcode: Opcode::NOP,
-    size: Size::None,
-    width: Width::None,
-    op0: Operand::Nothing,
-    op1: Operand::Nothing,
-    marked: false,
-};
-
 // 7D, by the high nibble: the word jumps, MULU and MUL, LDIPL, ADD, and conditions.
 pub fn decode_7D(bs: &[u8], b: u8) -> Decoded
     ensures { answer_of result ≡ run_row (row_7D (b / 16) (b % 16)) bs.now }

@@ -7,9 +7,8 @@ ghost use Rattle.rows.specs.Run.{run_row};
 ghost use Rattle.by_manual.specs.Changed.{add_SP, flag, ldipl};
 ghost use Rattle.decode_changed.specs.steps.Rows.{signed4, condition_opcode, flag_opcode};
 
-use crate::NAMELESS;
 use readers::answer;
-use readers::answer::{Decoded, Face};
+use readers::answer::{Decoded, Face, NAMELESS};
 use record::refusal::Refusal;
 use record::{Opcode, Operand, Size, Width};
 

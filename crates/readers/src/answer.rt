@@ -21,6 +21,16 @@ pub struct Face {
     pub marked: bool,
 }
 
+// A row that names nothing: each row says what it has in place of this.
+pub const NAMELESS: Face = Face {
+    opcode: Opcode::NOP,
+    size: Size::None,
+    width: Width::None,
+    op0: Operand::Nothing,
+    op1: Operand::Nothing,
+    marked: false,
+};
+
 impl Face {
     // The record of a row whose reads found this.
     pub fn with(self, s: Seen) -> Record
