@@ -6,12 +6,11 @@ mod names; // names
 mod words; // the line in parts
 mod write; // the parts into the buffer
 
-ghost use Rattle.record.specs.Answer.{number_of};
 ghost use Rattle.line.specs.Left.{Writes};
 ghost use Rattle.line.specs.Line.{line_of, from_width, end_text, refused_text};
 
 use record::Record;
-use record::refusal::{Refusal, Refused};
+use record::refusal::Refusal;
 
 // The line of a record at a place. This and the others answer the length written, or that there is too little room.
 pub fn line(place: usize, r: Record, out: &mut [u8]) -> Result<usize, Refusal>
@@ -38,11 +37,11 @@ pub fn end(place: usize, out: &mut [u8]) -> Result<usize, Refusal>
     write::deliver(&words, out)
 }
 
-// The line of a refused place.
+// The line of a refused place. (The refusal is a number, as the line shows it: any number is taken, as PROMISES.md says.)
 #[tactic(auto, using(crate::proofs::Room::said, crate::proofs::Lined::refusing))]
-pub fn refused(place: usize, e: Refused, out: &mut [u8]) -> Result<usize, Refusal>
-    ensures { Writes (refused_text place (number_of e.why) e.taken) out.old result out.new }
+pub fn refused(place: usize, refusal: u8, taken: usize, out: &mut [u8]) -> Result<usize, Refusal>
+    ensures { Writes (refused_text place refusal taken) out.old result out.new }
 {
-    let words = words::refused_words(place, e);
+    let words = words::refused_words(place, refusal, taken);
     write::deliver(&words, out)
 }

@@ -1,13 +1,11 @@
 // A record's line as packed words, up to eight characters in each: there is no heap to make texts in, and a word is passed as a number.
 ghost use Rattle.std.specs.Prelude.{◌≡◌, ◌∷◌, map, ◌<◌, ◌≤◌, nat_abs};
-ghost use Rattle.record.specs.Answer.{number_of};
-ghost use Rattle.record.specs.Signed as signs;
+ghost use Rattle.record.specs.Signed.{number_of};
 ghost use Rattle.line.specs.Characters.{digit, hex};
 ghost use Rattle.line.specs.Line.{width_text, size_text, digits_of, sign_text, number_text, dropped_text};
 ghost use Rattle.line.specs.steps.Packed.{pack, place_text, length_text, parts, end_parts, refused_parts};
 
 use crate::names;
-use record::refusal::Refused;
 use record::{Operand, Record, Size, Width, fields, signed};
 
 fn width_word(x: Width) -> u64
@@ -106,7 +104,7 @@ fn sign_of(n: i64) -> u64
 
 // `=`, the sign of a signed number, and the digits, of which a signed one has two.
 fn number_word(x: Operand, v: u32) -> u64
-    ensures { result ≡ pack (number_text x (signs.number_of x v)) }
+    ensures { result ≡ pack (number_text x (number_of x v)) }
 {
     if signed::is_signed(x) {
         let n = signed::number_of(x, v);
@@ -174,14 +172,14 @@ pub fn end_words(place: usize) -> [u64; 2]
     ]
 }
 
-pub fn refused_words(place: usize, e: Refused) -> [u64; 5]
-    ensures { result ≡ map pack (refused_parts place (number_of e.why) e.taken) }
+pub fn refused_words(place: usize, refusal: u8, taken: usize) -> [u64; 5]
+    ensures { result ≡ map pack (refused_parts place refusal taken) }
 {
     [
         digits(4, place as u64),
         0x4445535546455220, // REFUSED
-        0x20 + 0x100 * digits(1, u64::from(u32::from(e.why))),
+        0x20 + 0x100 * digits(1, u64::from(refusal)),
         0x204E454B415420, // TAKEN
-        digits(1, e.taken as u64),
+        digits(1, taken as u64),
     ]
 }

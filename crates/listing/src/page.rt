@@ -48,7 +48,7 @@ fn write_step(place: usize, here: Option<Decoded>, out: &mut [u8]) -> Result<usi
     match here {
         None => line::end(place, out),
         Some(Ok(r)) => line::line(place, r, out),
-        Some(Err(e)) => line::refused(place, e, out),
+        Some(Err(e)) => line::refused(place, u8::from(e.why), e.taken, out),
     }
 }
 

@@ -20,6 +20,14 @@ pub struct Refused {
     pub taken: usize,
 }
 
+impl From<Refusal> for u8 {
+    ghost from_gives = { λ x r. r ≡ number_of x };
+
+    fn from(x: Refusal) -> u8 {
+        x as u8
+    }
+}
+
 impl From<Refusal> for u32 {
     ghost from_gives = { λ x r. r ≡ number_of x };
 
