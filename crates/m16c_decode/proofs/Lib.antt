@@ -1,7 +1,5 @@
-pub mod Stores
 pub mod Small
 pub mod Outcomes
-pub mod Passed
 pub mod Grouped
 pub mod Few
 pub mod There

@@ -25,23 +25,21 @@ small m image at h =
     let few = seven_by m bs (subst (λ x. x < 256) (sym (get_or-drop at image 1 0)) (h (at + 1))) in
     (few, omega (arith, (counted (table_by m) bs).short), no_third (table_by m) bs)
 
-module _ (t : Table) (image : List ℕ) (at : ℕ) (out : List ℕ) where
-  pub no_room : length out < entries → Decodes t image at out 6 out
-  unfolding decoded
-  no_room h = record { returned = rw (lt-ltb _ entries h); kept = rw (lt-ltb _ entries h) }
-
-  delivered : {r : ℕ} {after : List ℕ} → entries ≤ length out → Filled (decode_by t (drop at image)) out r after → Decodes t image at out r after
-  unfolding decoded
-  delivered h f = record { returned = rw (le-ltb _ entries h) f.returned; kept = rw (le-ltb _ entries h) f.kept }
-
 -- under another name
-pub same_filled : {x y : Answer} {before : List ℕ} {r : ℕ} {after : List ℕ} → x ≡ y → Filled x before r after → Filled y before r after
-same_filled {before = before} e f = record { returned = f.returned ∙ ap (λ x. x.refusal) e; kept = f.kept ∙ ap (λ x. numbers_of x ++ drop entries before) e }
+pub same_small : {x y : Answer} → x ≡ y → Small y → Small x
+same_small e = subst Small (sym e)
 
--- what a function asks for that is given such an answer, and that it then keeps the promise
-module _ (m : Bool) (image : List ℕ) (at : ℕ) (out : List ℕ) (room : entries ≤ length out) {x : Answer} (e : x ≡ decode_by (table_by m) (drop at image)) where
-  pub asks : ((k : ℕ) → get_or image k 0 < 256) → (entries ≤ length out) × Small x
-  asks h = (room, subst Small (sym e) (small m image at h))
+pub same_filled : {x y : Answer} {r : ℕ} {after : List ℕ} → x ≡ y → Filled x r after → Filled y r after
+same_filled e f = record { returned = f.returned ∙ ap (λ x. x.refusal) e; kept = f.kept ∙ ap numbers_of e }
 
-  pub keeps : {r : ℕ} {after : List ℕ} → Filled x out r after → Decodes (table_by m) image at out r after
-  keeps f = delivered (table_by m) image at out room (same_filled e f)
+module _ (t : Table) (image : List ℕ) (at : ℕ) (out : List ℕ) {r : ℕ} where
+  pub no_room : length out < entries → r ≡ 6 → Decodes t image at out r out
+  unfolding decoded
+  no_room h e = record { returned = rw (lt-ltb _ entries h) e; kept = rw (lt-ltb _ entries h) }
+
+  -- what such an answer's function keeps is the promise
+  pub keeps : entries ≤ length out → {x : Answer} → x ≡ decode_by t (drop at image) → {after : List ℕ} → Filled x r after → Decodes t image at out r (after ++ drop entries out)
+  unfolding decoded
+  keeps h e f =
+      let g = same_filled e f in
+      record { returned = rw (le-ltb _ entries h) g.returned; kept = rw (le-ltb _ entries h) (ap (λ l. l ++ drop entries out) g.kept) }
