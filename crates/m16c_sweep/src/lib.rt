@@ -5,8 +5,10 @@
 ghost use Rattle.std.specs.Prelude.{◌≡◌};
 ghost use Rattle.m16c_sweep.specs.Parts.{swept_in, SweepsInParts};
 ghost use Rattle.rows.specs.Groups.{document01};
+ghost use Rattle.sweep.specs.Swept.{swept_of};
 ghost use Rattle.sweep.specs.declared.Rule.{Rule};
 
+use record::refusal::Refusal;
 use sweep::Swept;
 
 // The starts of an image's instructions, to its end: a refused place is counted, and the next byte decoded. Returns 0, and leaves how many
@@ -43,18 +45,30 @@ pub fn m16c_sweep_stopping(
     in_parts(stopped, count, place, refused, read)
 }
 
+// A sweep's result in numbers: one that was refused before it began has none but the refusal's.
 pub fn in_parts(
-    s: Swept,
+    s: Result<Swept, Refusal>,
     count: &mut usize,
     place: &mut usize,
     refused: &mut usize,
     read: &mut usize,
 ) -> u32
-    ensures { s ≡ swept_in result count.new place.new refused.new read.new }
+    ensures { swept_of s ≡ swept_in result count.new place.new refused.new read.new }
 {
-    *count = s.count;
-    *place = s.place;
-    *refused = s.refused;
-    *read = s.read;
-    s.refusal as u32
+    match s {
+        Ok(s) => {
+            *count = s.count;
+            *place = s.place;
+            *refused = s.refused;
+            *read = s.read;
+            s.stop.map_or(0, u32::from)
+        }
+        Err(why) => {
+            *count = 0;
+            *place = 0;
+            *refused = 0;
+            *read = 0;
+            u32::from(why)
+        }
+    }
 }
