@@ -59,7 +59,7 @@ pub fn decode_few(image: &[u8], at: usize) -> Decoded
     }
 }
 
-// The instruction at a place of an image, by document 01 or by the manual. A place at or past its end is an empty string: refusal 1, no byte taken.
+// The instruction at a place of an image, by document 01 or by the manual. (A bool, and no enum: that is passed by its address, which costs the sweep.) A place at or past its end is an empty string: refusal 1, no byte taken.
 pub fn decode_by(manual: bool, image: &[u8], at: usize) -> Decoded
     ensures { answer_of result ≡ decode_by (table_by manual) (drop at image.now) }
 {

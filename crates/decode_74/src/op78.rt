@@ -8,8 +8,8 @@ ghost use Rattle.readers.specs.steps.Width.{width_of};
 
 use readers::answer::{Decoded, Face, NAMELESS};
 use readers::{answer, general, mul};
-use record::refusal::Refusal;
 use record::Opcode;
+use record::refusal::Refusal;
 
 // MUL: the source is read before the destination is judged.
 pub fn decode_op78(bs: &[u8], byte: bool, b: u8) -> Decoded

@@ -32,7 +32,7 @@ const OPCODES: [Opcode; 14] = [
     Opcode::BNXOR,
 ];
 
-// By the condition byte's low nibble: 00 to 06, and F8 to FE.
+// By the condition byte's low nibble: 00 to 06, and F8 to FE. (NOP stands where none is read: 07 and FF are refused before.)
 const CONDITIONS: [Opcode; 16] = [
     Opcode::BMGEU,
     Opcode::BMGTU,

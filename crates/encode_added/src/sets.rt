@@ -24,7 +24,7 @@ pub enum Kind {
     FlagNumber,
     Level,
     ToPointer,
-    Unchanged,
+    Unchanged, // a kind as any: the definition `kind_of` names it
 }
 
 #[tactic(auto, unfolding(crate::specs::steps::Entries::entry_of))]

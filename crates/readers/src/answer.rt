@@ -62,7 +62,7 @@ pub fn refuse(why: Refusal, taken: usize) -> Decoded
     Err(Refused { why, taken })
 }
 
-// The width of an even first byte is B, of an odd one W.
+// The width of an even first byte is B, of an odd one W. (A bool tells them apart: `Width` has a third, and an enum is passed by its address.)
 pub fn width_of(byte: bool) -> Width
     ensures { result ≡ width_of byte }
 {

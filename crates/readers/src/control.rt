@@ -14,7 +14,7 @@ const NAMES: [Operand; 8] = [
     Operand::FB,
 ];
 
-// K(code), by the low three bits; 0 names nothing, and the groups refuse it.
+// K(code), by the low three bits; 0 names nothing, as `name_K` says, and the groups refuse it.
 pub fn control_name(code: u8) -> Operand
     ensures { result ≡ name_K (code % 8) }
 {

@@ -4,7 +4,7 @@ ghost use Rattle.record.specs.Same.{field_of, shared, field_at, value_of, key};
 
 use crate::{Operand, Record};
 
-// No number; `imm_wide`; `dispabs`; `first`.
+// No number; `imm_wide`; `dispabs`; `first`. (Nowhere is one of them, and no Option: what holds of every field, as `Inside` and `patched`, holds of it.)
 #[derive(Clone, Copy, PartialEq, Eq)]
 pub enum Field {
     Nowhere,

@@ -5,7 +5,7 @@ ghost use Rattle.record.specs.Signed.{is_signed, signed, number_of, name_at, num
 use crate::fields::Field;
 use crate::{Operand, Record, fields};
 
-// A number and the field that holds it; nowhere and 0 if there is none.
+// A number and the field that holds it; nowhere and 0 if there is none. (No Option: `number_at` of record/specs/Signed gives both of every operand.)
 #[derive(Clone, Copy)]
 pub struct Number {
     pub field: Field,

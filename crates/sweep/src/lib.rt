@@ -40,6 +40,7 @@ struct Stopped {
     place: usize,
 }
 
+// The four are one function: each has a name of its own, since each has a promise of its own.
 // The starts of an image's instructions to its end; a refused place is counted, and passed by one byte.
 pub fn sweep(image: &[u8], starts: &mut [u16]) -> Result<Swept, Refusal>
     ensures { Sweeps document01 Rule.GoOn image.now starts.old (swept_of result) starts.new }
