@@ -15,7 +15,7 @@ use Rattle.rows.proofs.Refusals.{at_most_four}
 use Rattle.line.specs.Line.{line_of}
 use Rattle.line.specs.Left.{left}
 use Rattle.line.proofs.Lined.{line_short}
-use Rattle.m16c_line.specs.Lined.{untouched, lined}
+use Rattle.m16c_line.specs.Lined.{told, untouched, lined}
 
 -- a number returned, by decoding's refusal, the line's length and the room for it
 data Number (refusal n room r : ℕ) : Type 0 where
@@ -52,9 +52,9 @@ module _ (t : Table) (image : List ℕ) (at : ℕ) (out : List ℕ) where
   line = line_of at (decode_by t (drop at image)).inst
 
   abbrev number : ℕ
-  number = (lined t image at out).written.refusal
+  number = (lined t image at out).refusal
 
-  pub accepted : refusal ≡ 0 → lined t image at out ≡ left line out
+  pub accepted : refusal ≡ 0 → lined t image at out ≡ told (left line out)
   unfolding lined
   accepted z = rw (eq-eqb _ 0 z)
 
@@ -67,9 +67,9 @@ module _ (t : Table) (image : List ℕ) (at : ℕ) (out : List ℕ) where
   numbered = by (eqb refusal 0) (leb (length line) (length out)) refl refl
     where
       by : (a b : Bool) → eqb refusal 0 ≡ a → leb (length line) (length out) ≡ b → Number refusal (length line) (length out) number
-      by false b e f = refusing (eqb-false _ 0 e) (at_most_four t (drop at image)) (ap (λ w. w.written.refusal) (refused (eqb-false _ 0 e)))
-      by true true e f = writing (eqb-true _ 0 e) (leb-true _ _ f) (ap (λ w. w.written.refusal) (accepted (eqb-true _ 0 e)) ∙ rw f)
-      by true false e f = lacking (eqb-true _ 0 e) (leb-false _ _ f) (ap (λ w. w.written.refusal) (accepted (eqb-true _ 0 e)) ∙ rw f)
+      by false b e f = refusing (eqb-false _ 0 e) (at_most_four t (drop at image)) (ap (λ w. w.refusal) (refused (eqb-false _ 0 e)))
+      by true true e f = writing (eqb-true _ 0 e) (leb-true _ _ f) (ap (λ w. w.refusal) (accepted (eqb-true _ 0 e)) ∙ rw f)
+      by true false e f = lacking (eqb-true _ 0 e) (leb-false _ _ f) (ap (λ w. w.refusal) (accepted (eqb-true _ 0 e)) ∙ rw f)
 
   -- 0 exactly where decoding accepts and the line has room
   pub zero_where : (number ≡ 0) ↔ ((refusal ≡ 0) × (length line ≤ length out))
