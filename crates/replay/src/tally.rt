@@ -1,5 +1,5 @@
 // How many lines of each verdict were met. No run reads 2 ^ 64 lines, so no count wraps.
-ghost use Rattle.std.specs.Prelude.{◌≡◌, ◌==◌, nat_lt};
+ghost use Rattle.std.specs.Prelude.{◌≡◌, ◌==◌, nat_lt, None};
 ghost use Rattle.replay.specs.Tally.{tally, counted};
 
 use crate::verdict::Verdict;
@@ -10,18 +10,18 @@ pub struct Tally {
     pub differ: u64,
     pub malformed: u64,
     // The first malformed line's number, counted from 1.
-    pub first_malformed: u64,
+    pub first_malformed: Option<u64>,
 }
 
 impl Tally {
     pub fn new() -> Self
-        ensures { result ≡ tally 0 0 0 0 }
+        ensures { result ≡ tally 0 0 0 None }
     {
         Tally {
             answers: 0,
             differ: 0,
             malformed: 0,
-            first_malformed: 0,
+            first_malformed: None,
         }
     }
 
@@ -45,7 +45,7 @@ impl Tally {
     {
         self.malformed = self.malformed.wrapping_add(1);
         if self.malformed == 1 {
-            self.first_malformed = self.answers.wrapping_add(1);
+            self.first_malformed = Some(self.answers.wrapping_add(1));
         }
         self
     }
