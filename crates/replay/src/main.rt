@@ -132,23 +132,7 @@ fn replay<R: Read, W: Write>(input: &mut R, out: &mut W) -> io::Result<Tally> {
     Ok(tally)
 }
 
-fn report<W: Write>(t: Tally, out: &mut W) -> io::Result<()> {
-    let answers = t.answers;
-    let differ = t.differ;
-    let malformed = t.malformed;
-    match t.first_malformed {
-        Some(first) if t.any_malformed() => {
-            writeln!(out, "first malformed line: {first}")?;
-            writeln!(
-                out,
-                "{answers} answers, {differ} differ, {malformed} malformed"
-            )
-        }
-        _ => writeln!(out, "{answers} answers, {differ} differ"),
-    }
-}
-
 fn main(rt: HostRuntime) -> io::Result<()> {
     let tally = replay(&mut rt.stdin(), &mut rt.stdout())?;
-    report(tally, &mut rt.stdout())
+    rt.println(tally)
 }

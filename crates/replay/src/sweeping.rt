@@ -4,8 +4,7 @@ ghost use Rattle.rows.specs.Groups.{document01};
 ghost use Rattle.sweep.specs.Sweep.{Sweeps};
 ghost use Rattle.sweep.specs.Swept.{swept_of};
 ghost use Rattle.replay.specs.Verdict.{Tells};
-ghost use Rattle.replay.specs.Sweeping.{form_of, Whole, image_in, place_in, refused_in, places, Begins, Right};
-ghost use Rattle.replay.specs.Form.{Has};
+ghost use Rattle.replay.specs.Sweeping.{Whole, image_in, place_in, refused_in, places, Begins, Right};
 
 use crate::form::Line;
 use crate::{form, hex};
@@ -13,19 +12,14 @@ use record::refusal::Refusal;
 use sweep::{Rule, Swept};
 
 // Bytes given, at most sixteen; sixteen bytes; bytes read, refused places or stopping place, refusal; a bit for each start.
-fn has_form(line: &Line, rule: Rule) -> bool
-    ensures { Tells result (Has (form_of rule) line.now) }
-{
-    match rule {
-        Rule::GoOn => form::has(line, b"G################################## ## ## # ####\n"),
-        Rule::Stop => form::has(line, b"S################################## ## ## # ####\n"),
-    }
-}
-
 pub(crate) fn is_whole(line: &Line, rule: Rule) -> bool
     ensures { Tells result (Whole rule line.now) }
 {
-    has_form(line, rule) && hex::byte_at(line, 1) <= 16
+    let form = match rule {
+        Rule::GoOn => b"G################################## ## ## # ####\n",
+        Rule::Stop => b"S################################## ## ## # ####\n",
+    };
+    form::has(line, form) && hex::byte_at(line, 1) <= 16
 }
 
 // Whether starts are the places of a word's bits, the first place's the highest.

@@ -3,6 +3,7 @@ ghost use Rattle.std.specs.Prelude.{◌≡◌, ◌==◌, nat_lt, None};
 ghost use Rattle.replay.specs.Tally.{tally, counted};
 
 use crate::verdict::Verdict;
+use std::fmt;
 
 #[derive(Clone, Copy)]
 pub struct Tally {
@@ -60,5 +61,23 @@ impl Tally {
         ensures { result ≡ nat_lt 0 self.malformed }
     {
         0 < self.malformed
+    }
+}
+
+impl fmt::Display for Tally {
+    fn fmt<W: fmt::Write>(&self, f: &mut fmt::Formatter<W>) -> fmt::Result {
+        let answers = self.answers;
+        let differ = self.differ;
+        let malformed = self.malformed;
+        match self.first_malformed {
+            Some(first) if self.any_malformed() => {
+                writeln!(f, "first malformed line: {first}")?;
+                write!(
+                    f,
+                    "{answers} answers, {differ} differ, {malformed} malformed"
+                )
+            }
+            _ => write!(f, "{answers} answers, {differ} differ"),
+        }
     }
 }
