@@ -122,7 +122,7 @@ fn replay_piece<R: Read, W: Write>(
 
 // Nothing says that the input ends, so the pieces are counted down from a number that no run uses up.
 fn replay<R: Read, W: Write>(input: &mut R, out: &mut W) -> io::Result<Tally> {
-    let mut tally = Tally::new();
+    let mut tally = Tally::default();
     for _ in 0..u64::MAX {
         match replay_piece(tally, input, out)? {
             ControlFlow::Continue(t) => tally = t,

@@ -44,13 +44,12 @@ fn are_places(starts: &[u16], bits: u16) -> bool
 }
 
 // Whether the first so many starts are.
-fn begin(starts: &[u16], count: usize, bits: u16) -> bool
+fn begins(starts: &[u16], count: usize, bits: u16) -> bool
     ensures { Tells result (Begins count starts.now (places 16 bits)) }
 {
-    match starts.get(..count) {
-        Some(these) => are_places(these, bits),
-        None => false,
-    }
+    starts
+        .get(..count)
+        .is_some_and(|these| are_places(these, bits))
 }
 
 fn sweep_by(rule: Rule, image: &[u8], starts: &mut [u16]) -> Result<Swept, Refusal>
@@ -97,7 +96,7 @@ pub(crate) fn agrees(line: &Line, rule: Rule) -> bool
     ensures { Tells result (Right rule line.now) }
 {
     let mut starts = [0u16; 16];
-    // An image of sixteen bytes is swept, with as many starts: no line says otherwise.
+    // (Sixteen starts are room for sixteen bytes: no sweep is refused before it begins.)
     let Ok(s) = swept(line, rule, &mut starts) else {
         return false;
     };
@@ -108,5 +107,5 @@ pub(crate) fn agrees(line: &Line, rule: Rule) -> bool
         refused_in(line, rule),
         usize::from(hex::byte_at(line, 36)),
     );
-    found == said && begin(&starts, s.count, hex::word_at(line, 44))
+    found == said && begins(&starts, s.count, hex::word_at(line, 44))
 }

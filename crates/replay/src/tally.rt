@@ -1,11 +1,11 @@
 // How many lines of each verdict were met. No run reads 2 ^ 64 lines, so no count wraps.
-ghost use Rattle.std.specs.Prelude.{◌≡◌, ◌==◌, nat_lt, None};
-ghost use Rattle.replay.specs.Tally.{tally, counted};
+ghost use Rattle.std.specs.Prelude.{◌≡◌, ◌==◌, nat_lt};
+ghost use Rattle.replay.specs.Tally.{counted};
 
 use crate::verdict::Verdict;
 use std::fmt;
 
-#[derive(Clone, Copy)]
+#[derive(Clone, Copy, Default)]
 pub struct Tally {
     pub answers: u64,
     pub differ: u64,
@@ -15,17 +15,6 @@ pub struct Tally {
 }
 
 impl Tally {
-    pub fn new() -> Self
-        ensures { result ≡ tally 0 0 0 None }
-    {
-        Tally {
-            answers: 0,
-            differ: 0,
-            malformed: 0,
-            first_malformed: None,
-        }
-    }
-
     pub fn agreed(mut self) -> Self
         ensures { result ≡ counted Verdict.Agrees self }
     {
