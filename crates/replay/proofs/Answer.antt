@@ -11,10 +11,6 @@ not_both e f = let z : ◌≡◌ {A = ℕ} 0 1 = cc in omega arith
 pub refuted : {P : Type 0} → (P → ⊥) → Tells false P
 refuted h = (λ e. absurd (not_both e refl), λ p. absurd (h p))
 
--- and where it was right, it does not hold
-pub untold : {P : Type 0} {r : Bool} → Tells r P → r ≡ false → P → ⊥
-untold t e p = not_both (t.1 p) e
-
 -- whether a line that has its form gives few enough bytes
 pub gives : {form s : List ℕ} (n given most : ℕ) → Has form s → n ≡ given → Tells (leb n most) (Gives form given most s)
 gives n given most h e = (λ f. record { formed = h; few = rw e at (leb-true n most f) }, λ g. le-leb n most (rw e g.few))

@@ -1,6 +1,6 @@
--- What a line's record has for an operand is a number of 64 bits, so that comparing bits compares numbers.
+-- What a line's record has for an operand is a number of 64 bits, so its bits are those of no other.
 -- Assumes nothing.
-use Rattle.std.proofs.Common.{◌≡◌, ℕ, ◌+◌, ◌-◌, ◌^◌, ◌<◌, Bool, true, false, eqb, leb, List, get_or, ℤ, sym, refl, ap, ◌∙◌, subst, arith, to_z-of_z, w64, SFits, to_z, of_z, eqb-true, leb-true}
+use Rattle.std.proofs.Common.{◌≡◌, ℕ, ◌+◌, ◌-◌, ◌^◌, ◌<◌, Bool, true, false, leb, List, get_or, ℤ, sym, refl, subst, arith, to_z-of_z, w64, SFits, to_z, of_z, leb-true}
 use Rattle.laws.specs.Choice.{pick, both, either}
 use Rattle.m16c_operand_number.specs.Told.{asked}
 use Rattle.m16c_operand_number.proofs.Laws.{asked_fits}
@@ -37,7 +37,5 @@ module _ (s : List ℕ) where
   long_small : (at : ℕ) → long_at s at < 2 ^ 32
   long_small at = omega (arith, word_small at, word_small (at + 4))
 
-  pub same_bits : (k : ℕ) {n m : ℤ} → n ≡ (asked (record_in s) k).value → SFits w64 m → eqb (of_z w64 n) (of_z w64 m) ≡ true → n ≡ m
-  same_bits k {n} {m} e fits t =
-      let there = subst (SFits w64) (sym e) (asked_fits (record_in s) k (long_small 12) (omega (arith, word_small 21)) (omega (arith, word_small 25))) in
-      sym (to_z-of_z there) ∙ ap (to_z w64) (eqb-true (of_z w64 n) (of_z w64 m) t) ∙ to_z-of_z fits
+  pub kept : (k : ℕ) {n : ℤ} → n ≡ (asked (record_in s) k).value → to_z w64 (of_z w64 n) ≡ n
+  kept k e = to_z-of_z (subst (SFits w64) (sym e) (asked_fits (record_in s) k (long_small 12) (omega (arith, word_small 21)) (omega (arith, word_small 25))))

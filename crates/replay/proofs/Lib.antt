@@ -1,5 +1,7 @@
 pub mod Answer
 pub mod Encoded
-pub mod Asked
 pub mod Places
 pub mod Swept
+pub mod Bytes
+pub mod Lines
+pub mod Asked

@@ -1,13 +1,13 @@
 -- What a verdict adds to the counts, and the lines of a text counted one after the other.
-use Rattle.std.specs.Prelude.{◌≡◌, ℕ, ◌+◌, ◌-◌, ◌%◌, ◌^◌, List, length, take, drop, ◌==◌, nat_lt}
+use Rattle.std.specs.Prelude.{◌≡◌, ℕ, ◌+◌, ◌-◌, ◌%◌, ◌^◌, List, Option, Some, length, take, drop, ◌==◌, nat_lt}
 use Rattle.laws.specs.Choice.{pick}
 use Rattle.replay.specs.declared.tally.Tally.{Tally}
 use Rattle.replay.specs.declared.verdict.Verdict.{Verdict}
 use Rattle.replay.specs.declared.verdict.Verdict.TheVariants.{Agrees, Differs, Malformed}
 use Rattle.replay.specs.Line.{Says}
 
--- answers, those that differ, malformed lines, and the number of the first malformed line
-abbrev pub tally : ℕ → ℕ → ℕ → ℕ → Tally
+-- answers, those that differ, malformed lines, and the number of the first malformed line, if there is one
+abbrev pub tally : ℕ → ℕ → ℕ → Option ℕ → Tally
 tally a d m f = record { answers = a; differ = d; malformed = m; first_malformed = f }
 
 -- counts wrap at 2 ^ 64
@@ -19,7 +19,7 @@ abbrev pub counted : Verdict → Tally → Tally
 counted Agrees t = tally (one_more t.answers) t.differ t.malformed t.first_malformed
 counted Differs t = tally (one_more t.answers) (one_more t.differ) t.malformed t.first_malformed
 counted Malformed t =
-    tally t.answers t.differ (one_more t.malformed) (pick (one_more t.malformed == 1) (one_more t.answers) t.first_malformed)
+    tally t.answers t.differ (one_more t.malformed) (pick (one_more t.malformed == 1) (Some (one_more t.answers)) t.first_malformed)
 
 -- a line is counted by what may be said of it
 pub record Counted (s : List ℕ) (t r : Tally) : Type 0 where

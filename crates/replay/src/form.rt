@@ -5,28 +5,22 @@ ghost use Rattle.replay.specs.Verdict.{Tells};
 
 use crate::hex;
 
+pub const LENGTH: usize = 49;
+
+// The characters of a line, the newline too.
+pub type Line = [u8; LENGTH];
+
 fn fits(form: u8, c: u8) -> bool
     ensures { result ≡ fits_at form c }
 {
-    if form == b'#' {
-        return hex::is_digit(c);
+    match form {
+        b'#' => hex::is_digit(c),
+        _ => c == form,
     }
-    c == form
 }
 
-// Whether a line has the 49 characters of a form.
-pub(crate) fn has(line: &[u8], form: &[u8; 49]) -> bool
+pub(crate) fn has(line: &Line, form: &Line) -> bool
     ensures { Tells result (Has form.now line.now) }
 {
-    if line.len() != 49 {
-        return false;
-    }
-    let mut k: usize = 0;
-    while k < 49 {
-        if !fits(form[k], line[k]) {
-            return false;
-        }
-        k += 1;
-    }
-    true
+    form.iter().zip(line).all(|(f, c)| fits(*f, *c))
 }

@@ -3,11 +3,12 @@
 ghost use Rattle.std.specs.Prelude.{◌≡◌};
 ghost use Rattle.replay.specs.Line.{kind_of};
 
+use crate::form::Line;
 use sweep::Rule;
 
 #[derive(Clone, Copy)]
 pub enum Kind {
-    Encodes(bool), // whether by the manual
+    Encodes { manual: bool },
     Sweeps(Rule),
     Asks,
     Places,
@@ -15,29 +16,16 @@ pub enum Kind {
 }
 
 // Its first character tells.
-pub(crate) fn kind_of(line: &[u8]) -> Kind
+pub(crate) fn kind_of(line: &Line) -> Kind
     ensures { result ≡ kind_of line.now }
 {
-    if line.len() == 0 {
-        return Kind::Decodes;
+    match line[0] {
+        b'E' => Kind::Encodes { manual: false },
+        b'S' => Kind::Sweeps(Rule::Stop),
+        b'G' => Kind::Sweeps(Rule::GoOn),
+        b'N' => Kind::Asks,
+        b'P' => Kind::Places,
+        b'M' => Kind::Encodes { manual: true },
+        _ => Kind::Decodes,
     }
-    if line[0] == b'E' {
-        return Kind::Encodes(false);
-    }
-    if line[0] == b'S' {
-        return Kind::Sweeps(Rule::Stop);
-    }
-    if line[0] == b'G' {
-        return Kind::Sweeps(Rule::GoOn);
-    }
-    if line[0] == b'N' {
-        return Kind::Asks;
-    }
-    if line[0] == b'P' {
-        return Kind::Places;
-    }
-    if line[0] == b'M' {
-        return Kind::Encodes(true);
-    }
-    Kind::Decodes
 }

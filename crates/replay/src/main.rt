@@ -15,31 +15,27 @@ mod sweeping;
 mod tally;
 mod verdict;
 
-ghost use Rattle.std.specs.Prelude.{◌≡◌, ◌<◌, ◌≤◌, length};
+ghost use Rattle.std.specs.Prelude.{length};
 ghost use Rattle.replay.specs.Line.{Whole, Right, Says};
-ghost use Rattle.replay.specs.Tally.{Counted, line_end, Tallied};
+ghost use Rattle.replay.specs.Tally.{Counted, Tallied};
 ghost use Rattle.replay.specs.Verdict.{Tells};
 
+use form::{LENGTH, Line};
 use kind::Kind;
 use std::io;
 use std::io::{Read, Write};
+use std::ops::ControlFlow;
 use tally::Tally;
 use verdict::Verdict;
 
 // 80 lines of 49 characters.
-const PIECE: usize = 80 * 49;
+const PIECE: usize = 80 * LENGTH;
 
-#[derive(Clone, Copy)]
-struct Step {
-    tally: Tally,
-    goes_on: bool,
-}
-
-fn is_whole(line: &[u8], kind: Kind) -> bool
+fn is_whole(line: &Line, kind: Kind) -> bool
     ensures { Tells result (Whole kind line.now) }
 {
     match kind {
-        Kind::Encodes(manual) => encoding::is_whole(line, manual),
+        Kind::Encodes { manual } => encoding::is_whole(line, manual),
         Kind::Sweeps(rule) => sweeping::is_whole(line, rule),
         Kind::Asks => asking::is_whole(line),
         Kind::Places => placing::is_whole(line),
@@ -47,12 +43,12 @@ fn is_whole(line: &[u8], kind: Kind) -> bool
     }
 }
 
-fn agrees(line: &[u8], kind: Kind) -> bool
+fn agrees(line: &Line, kind: Kind) -> bool
     requires { Whole kind line.now }
     ensures { Tells result (Right kind line.now) }
 {
     match kind {
-        Kind::Encodes(manual) => encoding::agrees(line, manual),
+        Kind::Encodes { manual } => encoding::agrees(line, manual),
         Kind::Sweeps(rule) => sweeping::agrees(line, rule),
         Kind::Asks => asking::agrees(line),
         Kind::Places => placing::agrees(line),
@@ -63,14 +59,17 @@ fn agrees(line: &[u8], kind: Kind) -> bool
 fn judge(line: &[u8]) -> Verdict
     ensures { Says result line.now }
 {
+    let Ok(line) = <&Line>::try_from(line) else {
+        return Verdict::Malformed;
+    };
     let kind = kind::kind_of(line);
-    if is_whole(line, kind) {
-        if agrees(line, kind) {
-            return Verdict::Agrees;
-        }
+    if !is_whole(line, kind) {
+        return Verdict::Malformed;
+    }
+    if !agrees(line, kind) {
         return Verdict::Differs;
     }
-    Verdict::Malformed
+    Verdict::Agrees
 }
 
 // A failed write is passed over here: the line that counts the answers is written to the same place, and tells of a failure.
@@ -95,68 +94,45 @@ fn replay_line<W: Write>(line: &[u8], t: Tally, out: &mut W) -> Tally
     }
 }
 
-fn line_end(at: usize, end: usize) -> usize
-    requires { at < end }
-    ensures { (at < result) × (result ≤ end) × (result ≡ line_end at end) }
-{
-    if end - at < 49 {
-        return end;
-    }
-    at + 49
-}
-
 // What is left over at the end is a line too, and a malformed one.
 fn replay_lines<W: Write>(text: &[u8], t: Tally, out: &mut W) -> Tally
     ensures { Tallied text.now (length text.now) t result }
 {
     let mut tally = t;
-    let mut at: usize = 0;
-    while at < text.len() {
-        let end = line_end(at, text.len());
-        tally = replay_line(&text[at..end], tally, out);
-        at = end;
+    for line in text.chunks(LENGTH) {
+        tally = replay_line(line, tally, out);
     }
     tally
 }
 
-fn replay_piece<R: Read, W: Write>(t: Tally, input: &mut R, out: &mut W) -> io::Result<Step> {
+// A piece that is not full is the last.
+fn replay_piece<R: Read, W: Write>(
+    t: Tally,
+    input: &mut R,
+    out: &mut W,
+) -> io::Result<ControlFlow<Tally, Tally>> {
     let mut piece = [0u8; PIECE];
     let n = reading::read_full(input, &mut piece)?;
-    Ok(Step {
-        tally: replay_lines(&piece[..n], t, out),
-        goes_on: n == PIECE,
-    })
+    let tally = replay_lines(&piece[..n], t, out);
+    if n < PIECE {
+        return Ok(ControlFlow::Break(tally));
+    }
+    Ok(ControlFlow::Continue(tally))
 }
 
 // Nothing says that the input ends, so the pieces are counted down from a number that no run uses up.
 fn replay<R: Read, W: Write>(input: &mut R, out: &mut W) -> io::Result<Tally> {
-    let mut tally = Tally::new();
+    let mut tally = Tally::default();
     for _ in 0..u64::MAX {
-        let step = replay_piece(tally, input, out)?;
-        tally = step.tally;
-        if !step.goes_on {
-            return Ok(tally);
+        match replay_piece(tally, input, out)? {
+            ControlFlow::Continue(t) => tally = t,
+            ControlFlow::Break(t) => return Ok(t),
         }
     }
     Ok(tally)
 }
 
-fn report<W: Write>(t: Tally, out: &mut W) -> io::Result<()> {
-    let answers = t.answers;
-    let differ = t.differ;
-    let malformed = t.malformed;
-    let first_malformed = t.first_malformed;
-    if t.any_malformed() {
-        writeln!(out, "first malformed line: {first_malformed}")?;
-        return writeln!(
-            out,
-            "{answers} answers, {differ} differ, {malformed} malformed"
-        );
-    }
-    writeln!(out, "{answers} answers, {differ} differ")
-}
-
 fn main(rt: HostRuntime) -> io::Result<()> {
     let tally = replay(&mut rt.stdin(), &mut rt.stdout())?;
-    report(tally, &mut rt.stdout())
+    rt.println(tally)
 }

@@ -1,21 +1,22 @@
 // A line with bytes, where decoding them says that the numbers stand, and how many registers a list names.
-ghost use Rattle.std.specs.Prelude.{◌≡◌, ◌<◌, length};
+ghost use Rattle.std.specs.Prelude.{◌≡◌, ◌<◌};
 ghost use Rattle.replay.specs.Verdict.{Tells};
-ghost use Rattle.replay.specs.Placing.{Whole, part_at, Right};
+ghost use Rattle.replay.specs.Placing.{Whole, part_at, parts_in, Right};
 
+use crate::form::Line;
 use crate::{given, hex};
-use record::Part;
+use record::{Part, Parts};
 
 // Bytes given, at most eight; eight bytes; refusal; offset and width of first, of dispabs, of imm_wide; registers.
-pub(crate) fn is_whole(line: &[u8]) -> bool
+pub(crate) fn is_whole(line: &Line) -> bool
     ensures { Tells result (Whole line.now) }
 {
     let form = b"P# ################ # ## ## ## #                \n";
     given::is_whole(line, form, 1)
 }
 
-fn part_at(line: &[u8], at: usize) -> Part
-    requires { (length line.now ≡ 49) × (at < 48) }
+fn part_at(line: &Line, at: usize) -> Part
+    requires { at < 48 }
     ensures { result ≡ part_at line.now at }
 {
     Part {
@@ -24,32 +25,29 @@ fn part_at(line: &[u8], at: usize) -> Part
     }
 }
 
-fn same_part(x: Part, y: Part) -> bool
-    ensures { Tells result (x ≡ y) }
+fn parts_in(line: &Line) -> Parts
+    ensures { result ≡ parts_in line.now }
 {
-    if x.offset != y.offset {
-        return false;
+    Parts {
+        first: part_at(line, 22),
+        dispabs: part_at(line, 25),
+        imm_wide: part_at(line, 28),
     }
-    x.width == y.width
 }
 
-pub(crate) fn agrees(line: &[u8]) -> bool
+pub(crate) fn agrees(line: &Line) -> bool
     requires { Whole line.now }
     ensures { Tells result (Right line.now) }
 {
-    let answer = given::answer_at(line, 1);
-    let parts = answer.inst.parts;
-    if answer.refusal != hex::digit_at(line, 20) {
-        return false;
-    }
-    if !same_part(parts.first, part_at(line, 22)) {
-        return false;
-    }
-    if !same_part(parts.dispabs, part_at(line, 25)) {
-        return false;
-    }
-    if !same_part(parts.imm_wide, part_at(line, 28)) {
-        return false;
-    }
-    answer.inst.registers == hex::digit_at(line, 31)
+    let (refusal, inst) = match given::answer_at(line, 1) {
+        Ok(r) => (0, r),
+        Err(e) => (u32::from(e.why), record::BLANK),
+    };
+    let found = (refusal, inst.parts, inst.registers);
+    let said = (
+        u32::from(hex::digit_at(line, 20)),
+        parts_in(line),
+        hex::digit_at(line, 31),
+    );
+    found == said
 }

@@ -1,61 +1,59 @@
 // A line with an image, and what sweeping it by a rule gives.
-ghost use Rattle.std.specs.Prelude.{◌≡◌, length};
+ghost use Rattle.std.specs.Prelude.{◌≡◌};
 ghost use Rattle.rows.specs.Groups.{document01};
 ghost use Rattle.sweep.specs.Sweep.{Sweeps};
+ghost use Rattle.sweep.specs.Swept.{swept_of};
 ghost use Rattle.replay.specs.Verdict.{Tells};
-ghost use Rattle.replay.specs.Sweeping.{form_of, Whole, image_in, place_in, refused_in, swept_in, places, Begins, Right};
-ghost use Rattle.replay.specs.Form.{Has};
+ghost use Rattle.replay.specs.Sweeping.{Whole, image_in, place_in, refused_in, places, Begins, Right};
 
+use crate::form::Line;
 use crate::{form, hex};
+use record::refusal::Refusal;
 use sweep::{Rule, Swept};
 
 // Bytes given, at most sixteen; sixteen bytes; bytes read, refused places or stopping place, refusal; a bit for each start.
-fn has_form(line: &[u8], rule: Rule) -> bool
-    ensures { Tells result (Has (form_of rule) line.now) }
-{
-    match rule {
-        Rule::GoOn => form::has(line, b"G################################## ## ## # ####\n"),
-        Rule::Stop => form::has(line, b"S################################## ## ## # ####\n"),
-    }
-}
-
-pub(crate) fn is_whole(line: &[u8], rule: Rule) -> bool
+pub(crate) fn is_whole(line: &Line, rule: Rule) -> bool
     ensures { Tells result (Whole rule line.now) }
 {
-    if has_form(line, rule) {
-        return hex::byte_at(line, 1) <= 16;
-    }
-    false
+    let form = match rule {
+        Rule::GoOn => b"G################################## ## ## # ####\n",
+        Rule::Stop => b"S################################## ## ## # ####\n",
+    };
+    form::has(line, form) && hex::byte_at(line, 1) <= 16
 }
 
-// Whether the first so many starts are the places of a word's bits, the first place's the highest.
-fn are_bits(starts: &[u16], count: usize, bits: u16) -> bool
+// Whether starts are the places of a word's bits, the first place's the highest.
+fn are_places(starts: &[u16], bits: u16) -> bool
+    ensures { Tells result (starts.now ≡ places 16 bits) }
+{
+    let mut left = starts;
+    let mut rest = bits;
+    for place in (0..16).rev() {
+        if rest % 2 == 1 {
+            let Some((last, before)) = left.split_last() else {
+                return false;
+            };
+            if *last != place {
+                return false;
+            }
+            left = before;
+        }
+        rest /= 2;
+    }
+    left.is_empty()
+}
+
+// Whether the first so many starts are.
+fn begins(starts: &[u16], count: usize, bits: u16) -> bool
     ensures { Tells result (Begins count starts.now (places 16 bits)) }
 {
-    let mut left = count;
-    let mut rest = bits;
-    let mut place: u16 = 16;
-    while place > 0 {
-        place -= 1;
-        if rest % 2 == 1 {
-            if left == 0 {
-                return false;
-            }
-            left -= 1;
-            if starts.len() <= left {
-                return false;
-            }
-            if starts[left] != place {
-                return false;
-            }
-        }
-        rest = rest / 2;
-    }
-    left == 0
+    starts
+        .get(..count)
+        .is_some_and(|these| are_places(these, bits))
 }
 
-fn sweep_by(rule: Rule, image: &[u8], starts: &mut [u16]) -> Swept
-    ensures { Sweeps document01 rule image.now starts.old result starts.new }
+fn sweep_by(rule: Rule, image: &[u8], starts: &mut [u16]) -> Result<Swept, Refusal>
+    ensures { Sweeps document01 rule image.now starts.old (swept_of result) starts.new }
 {
     match rule {
         Rule::GoOn => sweep::sweep(image, starts),
@@ -64,80 +62,50 @@ fn sweep_by(rule: Rule, image: &[u8], starts: &mut [u16]) -> Swept
 }
 
 // What the sweep says of the image that a line gives.
-fn swept(line: &[u8], rule: Rule, starts: &mut [u16]) -> Swept
+fn swept(line: &Line, rule: Rule, starts: &mut [u16]) -> Result<Swept, Refusal>
     requires { Whole rule line.now }
-    ensures { Sweeps document01 rule (image_in line.now) starts.old result starts.new }
+    ensures { Sweeps document01 rule (image_in line.now) starts.old (swept_of result) starts.new }
 {
-    let mut bytes = [0u8; 16];
-    hex::read_bytes(line, 3, &mut bytes);
-    let given = hex::byte_at(line, 1) as usize;
+    let bytes: [u8; 16] = hex::bytes_at(line, 3);
+    let given = usize::from(hex::byte_at(line, 1));
     sweep_by(rule, &bytes[..given], starts)
 }
 
-fn same(x: Swept, y: Swept) -> bool
-    ensures { Tells result (x ≡ y) }
-{
-    if x.refusal != y.refusal {
-        return false;
-    }
-    if x.count != y.count {
-        return false;
-    }
-    if x.place != y.place {
-        return false;
-    }
-    if x.refused != y.refused {
-        return false;
-    }
-    if x.read != y.read {
-        return false;
-    }
-    true
-}
-
 // Going on, the place is the image's end, and the line tells how many were refused.
-fn place_in(line: &[u8], rule: Rule) -> usize
-    requires { length line.now ≡ 49 }
+fn place_in(line: &Line, rule: Rule) -> usize
     ensures { result ≡ place_in rule line.now }
 {
     match rule {
-        Rule::GoOn => hex::byte_at(line, 1) as usize,
-        Rule::Stop => hex::byte_at(line, 39) as usize,
+        Rule::GoOn => usize::from(hex::byte_at(line, 1)),
+        Rule::Stop => usize::from(hex::byte_at(line, 39)),
     }
 }
 
-fn refused_in(line: &[u8], rule: Rule) -> usize
-    requires { length line.now ≡ 49 }
+fn refused_in(line: &Line, rule: Rule) -> usize
     ensures { result ≡ refused_in rule line.now }
 {
     match rule {
-        Rule::GoOn => hex::byte_at(line, 39) as usize,
+        Rule::GoOn => usize::from(hex::byte_at(line, 39)),
         Rule::Stop => 0,
     }
 }
 
 // The count is none of the line's numbers: its bits tell it.
-fn swept_in(line: &[u8], rule: Rule, count: usize) -> Swept
-    requires { length line.now ≡ 49 }
-    ensures { result ≡ swept_in rule line.now count }
-{
-    Swept {
-        refusal: hex::digit_at(line, 42),
-        count: count,
-        place: place_in(line, rule),
-        refused: refused_in(line, rule),
-        read: hex::byte_at(line, 36) as usize,
-    }
-}
-
-pub(crate) fn agrees(line: &[u8], rule: Rule) -> bool
+pub(crate) fn agrees(line: &Line, rule: Rule) -> bool
     requires { Whole rule line.now }
     ensures { Tells result (Right rule line.now) }
 {
     let mut starts = [0u16; 16];
-    let s = swept(line, rule, &mut starts);
-    if same(s, swept_in(line, rule, s.count)) {
-        return are_bits(&starts, s.count, hex::word_at(line, 44));
-    }
-    false
+    // (Sixteen starts are room for sixteen bytes: no sweep is refused before it begins.)
+    let Ok(s) = swept(line, rule, &mut starts) else {
+        return false;
+    };
+    let found = (s.stop.map_or(0, u32::from), s.place, s.refused, s.read);
+    let said = (
+        u32::from(hex::digit_at(line, 42)),
+        place_in(line, rule),
+        refused_in(line, rule),
+        usize::from(hex::byte_at(line, 36)),
+    );
+    found == said && begins(&starts, s.count, hex::word_at(line, 44))
 }

@@ -1,30 +1,20 @@
 // How many lines of each verdict were met. No run reads 2 ^ 64 lines, so no count wraps.
 ghost use Rattle.std.specs.Prelude.{◌≡◌, ◌==◌, nat_lt};
-ghost use Rattle.replay.specs.Tally.{tally, counted};
+ghost use Rattle.replay.specs.Tally.{counted};
 
 use crate::verdict::Verdict;
+use std::fmt;
 
-#[derive(Clone, Copy)]
+#[derive(Clone, Copy, Default)]
 pub struct Tally {
     pub answers: u64,
     pub differ: u64,
     pub malformed: u64,
     // The first malformed line's number, counted from 1.
-    pub first_malformed: u64,
+    pub first_malformed: Option<u64>,
 }
 
 impl Tally {
-    pub fn new() -> Self
-        ensures { result ≡ tally 0 0 0 0 }
-    {
-        Tally {
-            answers: 0,
-            differ: 0,
-            malformed: 0,
-            first_malformed: 0,
-        }
-    }
-
     pub fn agreed(mut self) -> Self
         ensures { result ≡ counted Verdict.Agrees self }
     {
@@ -45,7 +35,7 @@ impl Tally {
     {
         self.malformed = self.malformed.wrapping_add(1);
         if self.malformed == 1 {
-            self.first_malformed = self.answers.wrapping_add(1);
+            self.first_malformed = Some(self.answers.wrapping_add(1));
         }
         self
     }
@@ -60,5 +50,23 @@ impl Tally {
         ensures { result ≡ nat_lt 0 self.malformed }
     {
         0 < self.malformed
+    }
+}
+
+impl fmt::Display for Tally {
+    fn fmt<W: fmt::Write>(&self, f: &mut fmt::Formatter<W>) -> fmt::Result {
+        let answers = self.answers;
+        let differ = self.differ;
+        let malformed = self.malformed;
+        match self.first_malformed {
+            Some(first) if self.any_malformed() => {
+                writeln!(f, "first malformed line: {first}")?;
+                write!(
+                    f,
+                    "{answers} answers, {differ} differ, {malformed} malformed"
+                )
+            }
+            _ => write!(f, "{answers} answers, {differ} differ"),
+        }
     }
 }

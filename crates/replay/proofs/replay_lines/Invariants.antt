@@ -1,13 +1,12 @@
--- Each turn counts a line, and leaves less of the text.
-use Rattle.std.proofs.Common.{◌-◌, ◌≤◌, length}
+-- The chunks so far are the lines counted so far; what is left begins behind them.
+use Rattle.std.proofs.Common.{◌≡◌, ◌-◌, length, drop}
+use Rattle.std.specs.Slice.Iter.{chunks_rest, chunks_size}
 use Rattle.replay.specs.Tally.{Tallied}
 use Rattle.replay.proofs.replay_lines.Given as goal
 
-abbrev pub invariant-loop-at : goal.invariant-loop-at
-invariant-loop-at g l = record {
-  inside : l.at ≤ length l.text;
-  counted : Tallied l.text l.at l.initial.tally l.tally;
+abbrev pub invariant-loop-line : goal.invariant-loop-line
+invariant-loop-line g l = record {
+  by : chunks_size l.line-iterator ≡ 49;
+  rest : chunks_rest l.line-iterator ≡ drop (length l.text - length (chunks_rest l.line-iterator)) l.text;
+  counted : Tallied l.text (length l.text - length (chunks_rest l.line-iterator)) l.initial.tally l.tally;
 }
-
-abbrev pub decreases-loop-at : goal.decreases-loop-at
-decreases-loop-at g l = length l.text - l.at
