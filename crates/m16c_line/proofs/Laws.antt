@@ -1,7 +1,7 @@
 -- Where a line's function answers 0, 6 or decoding's refusal.
 -- Assumes nothing.
 use Prim.Native.Nat.{ℕ, ◌≤◌, ◌<◌}
-use mathlib.Core.Path.{◌≡◌, refl, ap, ◌∙◌}
+use mathlib.Core.Path.{◌≡◌, refl, sym, ap, ◌∙◌}
 use mathlib.Core.Bool.{Bool, true, false}
 use mathlib.Core.List.{List}
 use mathlib.Core.Logic.{◌≢◌, ◌↔◌, ◌⊎◌, inl, inr}
@@ -9,13 +9,28 @@ use native.Mathlib.Omega.{arith}
 use lib.ListN.{length, drop}
 use lib.Dec.{leb, eqb}
 use borrow.Author.Tests.{eq-eqb, ne_eqb, eqb-true, eqb-false, leb-true, leb-false}
+use Rattle.std.specs.Prelude.{Result, Ok, Err}
+use Rattle.record.specs.Answer.{answer_of, number_of, refusal_in, length_in}
+use Rattle.record.specs.declared.Record.{Record}
+use Rattle.record.specs.declared.refusal.Refused.{Refused}
+use Rattle.record.specs.declared.refusal.Refusal.{Refusal}
+use Rattle.record.specs.declared.refusal.Refusal.TheVariants.{ExhaustedInput, InvalidOpcode, InvalidOperand, FirstByteOutside, NoString, TooLittleRoom, ImageTooLong}
 use Rattle.rows.specs.Row.{Table}
 use Rattle.rows.specs.Run.{decode_by}
 use Rattle.rows.proofs.Refusals.{at_most_four}
 use Rattle.line.specs.Line.{line_of}
-use Rattle.line.specs.Left.{left}
+use Rattle.line.specs.Left.{left, Writes}
 use Rattle.line.proofs.Lined.{line_short}
-use Rattle.m16c_line.specs.Lined.{untouched, lined}
+use Rattle.m16c_line.specs.Lined.{told, untouched, line_at, lined, Lines}
+
+not_zero : (e : Refusal) → number_of e ≢ 0
+not_zero ExhaustedInput z = absurd (omega arith)
+not_zero InvalidOpcode z = absurd (omega arith)
+not_zero InvalidOperand z = absurd (omega arith)
+not_zero FirstByteOutside z = absurd (omega arith)
+not_zero NoString z = absurd (omega arith)
+not_zero TooLittleRoom z = absurd (omega arith)
+not_zero ImageTooLong z = absurd (omega arith)
 
 -- a number returned, by decoding's refusal, the line's length and the room for it
 data Number (refusal n room r : ℕ) : Type 0 where
@@ -52,9 +67,9 @@ module _ (t : Table) (image : List ℕ) (at : ℕ) (out : List ℕ) where
   line = line_of at (decode_by t (drop at image)).inst
 
   abbrev number : ℕ
-  number = (lined t image at out).written.refusal
+  number = (lined t image at out).refusal
 
-  pub accepted : refusal ≡ 0 → lined t image at out ≡ left line out
+  pub accepted : refusal ≡ 0 → lined t image at out ≡ told (left line out)
   unfolding lined
   accepted z = rw (eq-eqb _ 0 z)
 
@@ -62,14 +77,32 @@ module _ (t : Table) (image : List ℕ) (at : ℕ) (out : List ℕ) where
   unfolding lined
   refused z = rw (ne_eqb _ 0 z)
 
+  -- what stands in the buffer then, by decoding's result
+  pub line_told : {r : Record} → answer_of (Ok r) ≡ decode_by t (drop at image) → {w : Result ℕ Refusal} {after : List ℕ} → Writes (line_of at r) out w after
+      → Lines t image at out (refusal_in w) (length_in w) after
+  unfolding lined
+  line_told e l =
+      let k = ap (λ x. line_at at x out) e in
+      record {
+        returned = ap refusal_in l.returned ∙ ap (λ x. x.refusal) k;
+        measured = ap length_in l.returned ∙ ap (λ x. x.length) k;
+        kept = l.kept ∙ ap (λ x. x.buffer) k;
+      }
+
+  pub refusal_told : (e : Refused) → answer_of (Err e) ≡ decode_by t (drop at image) → Lines t image at out (number_of e.why) 0 out
+  refusal_told e d =
+      let n = ap (λ x. x.refusal) d in
+      let k = sym (refused (λ z. not_zero e.why (n ∙ z))) in
+      record { returned = n ∙ ap (λ x. x.refusal) k; measured = ap (λ x. x.length) k; kept = ap (λ x. x.buffer) k }
+
   numbered : Number refusal (length line) (length out) number
   unfolding left
   numbered = by (eqb refusal 0) (leb (length line) (length out)) refl refl
     where
       by : (a b : Bool) → eqb refusal 0 ≡ a → leb (length line) (length out) ≡ b → Number refusal (length line) (length out) number
-      by false b e f = refusing (eqb-false _ 0 e) (at_most_four t (drop at image)) (ap (λ w. w.written.refusal) (refused (eqb-false _ 0 e)))
-      by true true e f = writing (eqb-true _ 0 e) (leb-true _ _ f) (ap (λ w. w.written.refusal) (accepted (eqb-true _ 0 e)) ∙ rw f)
-      by true false e f = lacking (eqb-true _ 0 e) (leb-false _ _ f) (ap (λ w. w.written.refusal) (accepted (eqb-true _ 0 e)) ∙ rw f)
+      by false b e f = refusing (eqb-false _ 0 e) (at_most_four t (drop at image)) (ap (λ w. w.refusal) (refused (eqb-false _ 0 e)))
+      by true true e f = writing (eqb-true _ 0 e) (leb-true _ _ f) (ap (λ w. w.refusal) (accepted (eqb-true _ 0 e)) ∙ rw f)
+      by true false e f = lacking (eqb-true _ 0 e) (leb-false _ _ f) (ap (λ w. w.refusal) (accepted (eqb-true _ 0 e)) ∙ rw f)
 
   -- 0 exactly where decoding accepts and the line has room
   pub zero_where : (number ≡ 0) ↔ ((refusal ≡ 0) × (length line ≤ length out))

@@ -6,6 +6,8 @@ ghost use Rattle.rows.specs.Groups.{document01};
 ghost use Rattle.by_manual.specs.Table.{table_by};
 ghost use Rattle.m16c_line.specs.Lined.{Lines};
 
+use record::refusal;
+
 // By document 01 or by the manual.
 pub fn line_by(
     manual: bool,
@@ -16,15 +18,11 @@ pub fn line_by(
 ) -> u32
     ensures { Lines (table_by manual) image.now at out.old result line_length.new out.new }
 {
-    let a = decode::decode_by(manual, image, at);
-    if a.refusal != 0 {
-        *line_length = 0;
-        return a.refusal as u32;
-    }
-    let inst = a.inst;
-    let w = line::line(at, inst, out);
-    *line_length = w.length;
-    w.refusal as u32
+    let written = match decode::decode_by(manual, image, at) {
+        Ok(inst) => line::line(at, inst, out),
+        Err(refused) => Err(refused.why),
+    };
+    refusal::leave(written, line_length)
 }
 
 // The listing's line of the instruction at a place of an image, without a newline, over the first bytes of a buffer. Returns 0 and leaves
