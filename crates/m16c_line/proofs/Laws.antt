@@ -1,7 +1,7 @@
 -- Where a line's function answers 0, 6 or decoding's refusal.
 -- Assumes nothing.
 use Prim.Native.Nat.{ℕ, ◌≤◌, ◌<◌}
-use mathlib.Core.Path.{◌≡◌, refl, ap, ◌∙◌}
+use mathlib.Core.Path.{◌≡◌, refl, sym, ap, ◌∙◌}
 use mathlib.Core.Bool.{Bool, true, false}
 use mathlib.Core.List.{List}
 use mathlib.Core.Logic.{◌≢◌, ◌↔◌, ◌⊎◌, inl, inr}
@@ -9,13 +9,28 @@ use native.Mathlib.Omega.{arith}
 use lib.ListN.{length, drop}
 use lib.Dec.{leb, eqb}
 use borrow.Author.Tests.{eq-eqb, ne_eqb, eqb-true, eqb-false, leb-true, leb-false}
+use Rattle.std.specs.Prelude.{Result, Ok, Err}
+use Rattle.record.specs.Answer.{answer_of, number_of, refusal_in, length_in}
+use Rattle.record.specs.declared.Record.{Record}
+use Rattle.record.specs.declared.refusal.Refused.{Refused}
+use Rattle.record.specs.declared.refusal.Refusal.{Refusal}
+use Rattle.record.specs.declared.refusal.Refusal.TheVariants.{ExhaustedInput, InvalidOpcode, InvalidOperand, FirstByteOutside, NoString, TooLittleRoom, ImageTooLong}
 use Rattle.rows.specs.Row.{Table}
 use Rattle.rows.specs.Run.{decode_by}
 use Rattle.rows.proofs.Refusals.{at_most_four}
 use Rattle.line.specs.Line.{line_of}
-use Rattle.line.specs.Left.{left}
+use Rattle.line.specs.Left.{left, Writes}
 use Rattle.line.proofs.Lined.{line_short}
-use Rattle.m16c_line.specs.Lined.{told, untouched, lined}
+use Rattle.m16c_line.specs.Lined.{told, untouched, line_at, lined, Lines}
+
+not_zero : (e : Refusal) → number_of e ≢ 0
+not_zero ExhaustedInput z = absurd (omega arith)
+not_zero InvalidOpcode z = absurd (omega arith)
+not_zero InvalidOperand z = absurd (omega arith)
+not_zero FirstByteOutside z = absurd (omega arith)
+not_zero NoString z = absurd (omega arith)
+not_zero TooLittleRoom z = absurd (omega arith)
+not_zero ImageTooLong z = absurd (omega arith)
 
 -- a number returned, by decoding's refusal, the line's length and the room for it
 data Number (refusal n room r : ℕ) : Type 0 where
@@ -61,6 +76,24 @@ module _ (t : Table) (image : List ℕ) (at : ℕ) (out : List ℕ) where
   pub refused : refusal ≢ 0 → lined t image at out ≡ untouched refusal out
   unfolding lined
   refused z = rw (ne_eqb _ 0 z)
+
+  -- what stands in the buffer then, by decoding's result
+  pub line_told : {r : Record} → answer_of (Ok r) ≡ decode_by t (drop at image) → {w : Result ℕ Refusal} {after : List ℕ} → Writes (line_of at r) out w after
+      → Lines t image at out (refusal_in w) (length_in w) after
+  unfolding lined
+  line_told e l =
+      let k = ap (λ x. line_at at x out) e in
+      record {
+        returned = ap refusal_in l.returned ∙ ap (λ x. x.refusal) k;
+        measured = ap length_in l.returned ∙ ap (λ x. x.length) k;
+        kept = l.kept ∙ ap (λ x. x.buffer) k;
+      }
+
+  pub refusal_told : (e : Refused) → answer_of (Err e) ≡ decode_by t (drop at image) → Lines t image at out (number_of e.why) 0 out
+  refusal_told e d =
+      let n = ap (λ x. x.refusal) d in
+      let k = sym (refused (λ z. not_zero e.why (n ∙ z))) in
+      record { returned = n ∙ ap (λ x. x.refusal) k; measured = ap (λ x. x.length) k; kept = ap (λ x. x.buffer) k }
 
   numbered : Number refusal (length line) (length out) number
   unfolding left

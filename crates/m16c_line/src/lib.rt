@@ -6,7 +6,7 @@ ghost use Rattle.rows.specs.Groups.{document01};
 ghost use Rattle.by_manual.specs.Table.{table_by};
 ghost use Rattle.m16c_line.specs.Lined.{Lines};
 
-use record::refusal::leave;
+use record::refusal;
 
 // By document 01 or by the manual.
 pub fn line_by(
@@ -18,10 +18,11 @@ pub fn line_by(
 ) -> u32
     ensures { Lines (table_by manual) image.now at out.old result line_length.new out.new }
 {
-    match decode::decode_by(manual, image, at) {
-        Ok(r) => leave(line::line(at, r, out), line_length),
-        Err(e) => leave(Err(e.why), line_length),
-    }
+    let written = match decode::decode_by(manual, image, at) {
+        Ok(inst) => line::line(at, inst, out),
+        Err(refused) => Err(refused.why),
+    };
+    refusal::leave(written, line_length)
 }
 
 // The listing's line of the instruction at a place of an image, without a newline, over the first bytes of a buffer. Returns 0 and leaves
