@@ -204,10 +204,16 @@ pub struct Parts {
     pub imm_wide: Part,
 }
 
-// The Rust's `operands: [OperandSpec; 3]` are three fields. (What is one byte stands first, and `op2`, which no row has, behind the rest of it:
-// so the compiled decoder takes some instructions fewer, and with `parts` first in `Seen`.)
+// The Rust's `operands: [OperandSpec; 3]` are three fields. (`op2`, which no row has, and `length` stand first, where a refusal's `why` and `taken`
+// lie in a decoding's result: so what is not asked for of a record is not made.)
 #[derive(Clone, Copy)]
 pub struct Record {
+    pub op2: Operand,
+    pub length: usize,
+    pub imm_wide: u32,
+    pub dispabs: u16,
+    // The earlier of two displacements; `dispabs` has the later.
+    pub first: u16,
     pub opcode: Opcode,
     pub size: Size,
     pub width: Width,
@@ -220,12 +226,6 @@ pub struct Record {
     // A 20-bit number was read from three bytes of which the upper nibble, which is not kept, was not zero.
     pub dropped: bool,
     pub parts: Parts,
-    pub op2: Operand,
-    pub imm_wide: u32,
-    pub dispabs: u16,
-    // The earlier of two displacements; `dispabs` has the later.
-    pub first: u16,
-    pub length: usize,
 }
 
 // No byte was read for it.
@@ -273,14 +273,14 @@ pub struct Key {
     pub number2: u32,
 }
 
-// What a row's reads pass on from one to the next: the numbers read so far, whether imm_wide lost bits, where the numbers stand, and the bytes
-// taken.
+// What a row's reads pass on from one to the next: whether imm_wide lost bits, the bytes taken, the numbers read so far, and where these stand.
+// (The first two lie where a refusal's do, as in `Record`.)
 #[derive(Clone, Copy)]
 pub struct Seen {
-    pub parts: Parts,
+    pub dropped: bool,
+    pub taken: usize,
     pub imm_wide: u32,
     pub dispabs: u16,
     pub first: u16,
-    pub dropped: bool,
-    pub taken: usize,
+    pub parts: Parts,
 }
