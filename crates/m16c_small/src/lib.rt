@@ -10,7 +10,7 @@ ghost use Rattle.m16c_encode.specs.Numbers.{EncodesNumbers};
 ghost use Rattle.m16c_line.specs.Lined.{Lines};
 ghost use Rattle.m16c_operand_number.specs.Told.{TellsNumber};
 
-use record::Answer;
+use record::refusal;
 
 pub fn m16c_decode(image: &[u8], at: usize, out: &mut [u32]) -> u32
     ensures { Decodes document01 image.now at out.old result out.new }
@@ -34,13 +34,15 @@ pub fn m16c_line(image: &[u8], at: usize, out: &mut [u8], line_length: &mut usiz
 pub fn m16c_length(bytes: &[u8], length: &mut usize) -> u32
     ensures { LengthOf document01 bytes.now result length.new }
 {
-    if bytes.len() < 2 {
-        *length = 0;
-        return decode::decode(bytes, 0).refusal as u32;
-    }
-    let answer: Answer = decode::decode(&[bytes[0], bytes[1], 0, 0, 0, 0, 0], 0);
-    *length = answer.inst.length;
-    answer.refusal as u32
+    let decoded = match bytes {
+        [a, b, ..] => decode::decode(&[*a, *b, 0, 0, 0, 0, 0], 0),
+        _ => decode::decode(bytes, 0),
+    };
+    let told = match decoded {
+        Ok(inst) => Ok(inst.length),
+        Err(refused) => Err(refused.why),
+    };
+    refusal::leave(told, length)
 }
 
 pub fn m16c_operand_number(numbers: &[u32], k: usize, number: &mut i64) -> u32
