@@ -1,30 +1,23 @@
 -- The promise by decoding: fewer than two bytes as they are, of more the first two with five zeros behind them.
 -- Assumes nothing.
 use Prim.Native.Nat.{ℕ, ◌≤◌, ◌<◌}
-use mathlib.Core.Path.{◌≡◌, refl, sym, ap, subst, ◌∙◌}
+use mathlib.Core.Path.{◌≡◌, refl, sym, ap, subst}
 use mathlib.Core.Bool.{Bool, true, false}
 use mathlib.Core.List.{List, [], ◌∷◌}
 use native.Mathlib.Omega.{arith}
 use lib.ListN.{length, get_or}
-use Rattle.laws.specs.Choice.{pick}
 use Rattle.record.specs.Answer.{Answer}
 use Rattle.rows.specs.Groups.{known, document01}
-use Rattle.rows.specs.Run.{refusal, decode_by, decode_rows}
+use Rattle.rows.specs.Run.{decode_rows}
 use Rattle.rows.proofs.Refusals.{outside}
 use Rattle.lengths.specs.Length.{OfTwo, LengthOf}
 use Rattle.lengths.proofs.Fated.{zeros}
 use Rattle.lengths.proofs.Laws.{of_outside}
 use Rattle.lengths.proofs.Rule.{zeros_tell}
 
--- either refusal of one byte has the blank record
-no_length : (k : Bool) → (pick k (refusal 1 1) (refusal 4 1)).inst.length ≡ 0
-no_length true = refl
-no_length false = refl
-
-pub few : (bs : List ℕ) {x : Answer} → length bs < 2 → x ≡ decode_rows bs → LengthOf document01 bs x.refusal x.inst.length
-unfolding decode_by
-few [] l e = (ap (λ y. y.refusal) e, ap (λ y. y.inst.length) e)
-few (a ∷ []) l e = (ap (λ y. y.refusal) e, ap (λ y. y.inst.length) e ∙ no_length (known a))
+pub few : (bs : List ℕ) {x : Answer} → length bs < 2 → x ≡ decode_rows bs → LengthOf document01 bs x.refusal 0
+few [] l e = (ap (λ y. y.refusal) e, refl)
+few (a ∷ []) l e = (ap (λ y. y.refusal) e, refl)
 few (a ∷ b ∷ bs) l e = absurd (omega arith)
 
 abbrev TellsTwo : ℕ → ℕ → Answer → Type 0

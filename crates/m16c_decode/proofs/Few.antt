@@ -26,7 +26,7 @@ pub few : (t : Table) (image : List ℕ) (at : ℕ) → length image - at < 2 �
 few t image at l = ap (decode_by t) (all_taken (drop at image) (omega (arith, length-drop at image)))
 
 -- and two bytes or more are a code
-pub code_told : (m : Bool) (bs : List ℕ) → 2 ≤ length bs → coded (table_by m) (get_or bs 0 0) (get_or bs 1 0) bs ≡ decode_by (table_by m) bs
-code_told m bs l =
+pub code_told : (m : Bool) {bs there : List ℕ} → bs ≡ there → 2 ≤ length bs → coded (table_by m) (get_or bs 0 0) (get_or bs 1 0) bs ≡ decode_by (table_by m) there
+code_told m {bs} e l =
     ap (λ k. pick k (run_row ((table_by m).row_at (get_or bs 0 0) (get_or bs 1 0)) bs) (refusal 4 1)) (known_by m (get_or bs 0 0))
-    ∙ two (table_by m) bs l
+    ∙ two (table_by m) bs l ∙ ap (decode_by (table_by m)) e

@@ -1,5 +1,6 @@
 // Each group's answer, delivered: functions that both decoders for C end with, so that neither has the other's code inside, nor saves
-// registers that only another group uses. Lists are passed on as they are from the first line on, by which they come in registers.
+// registers that only another group uses. Bytes are passed on as they are from the first one on, by which they come in registers.
+// (One function over the decoder that it calls would be three, since decoders take their bytes in three ways, and would be no plainer.)
 ghost use Rattle.std.specs.Prelude.{◌≡◌, Bool, true, ◌/◌, ◌%◌, eqb, take, drop};
 ghost use Rattle.rows.specs.Rows.{row74, row76, row78, row_7A, row_7B, row_7C, row_7D, row_7E, row_EB};
 ghost use Rattle.rows.specs.Pairs.{two};

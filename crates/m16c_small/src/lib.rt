@@ -2,8 +2,6 @@
 // them: it keeps no record, and behind a decoder that makes one it takes over three times its instructions.
 #![tactic(auto)]
 
-ghost use Rattle.std.specs.Prelude.{◌≡◌};
-ghost use Rattle.record.specs.Answer.{answer_of, refusal_in, length_in};
 ghost use Rattle.rows.specs.Groups.{document01};
 ghost use Rattle.m16c_decode.specs.Decoded.{Decodes};
 ghost use Rattle.encode_rules.specs.Written.{outcome};
@@ -12,8 +10,7 @@ ghost use Rattle.m16c_encode.specs.Numbers.{EncodesNumbers};
 ghost use Rattle.m16c_line.specs.Lined.{Lines};
 ghost use Rattle.m16c_operand_number.specs.Told.{TellsNumber};
 
-use readers::answer::Decoded;
-use record::refusal::{Refusal, leave};
+use record::refusal;
 
 pub fn m16c_decode(image: &[u8], at: usize, out: &mut [u32]) -> u32
     ensures { Decodes document01 image.now at out.old result out.new }
@@ -33,27 +30,19 @@ pub fn m16c_line(image: &[u8], at: usize, out: &mut [u8], line_length: &mut usiz
     m16c_line::m16c_line(image, at, out, line_length)
 }
 
-// The length of what was decoded.
-fn length_of(decoded: Decoded) -> Result<usize, Refusal>
-    ensures { (refusal_in result ≡ (answer_of decoded).refusal) × (length_in result ≡ (answer_of decoded).inst.length) }
-{
-    match decoded {
-        Ok(r) => Ok(r.length),
-        Err(e) => Err(e.why),
-    }
-}
-
 // By decoding, with five zeros behind the first two bytes: the table takes over ten times the bytes.
 pub fn m16c_length(bytes: &[u8], length: &mut usize) -> u32
     ensures { LengthOf document01 bytes.now result length.new }
 {
-    let [first, second, ..] = bytes else {
-        return leave(length_of(decode::decode(bytes, 0)), length);
+    let decoded = match bytes {
+        [a, b, ..] => decode::decode(&[*a, *b, 0, 0, 0, 0, 0], 0),
+        _ => decode::decode(bytes, 0),
     };
-    leave(
-        length_of(decode::decode(&[*first, *second, 0, 0, 0, 0, 0], 0)),
-        length,
-    )
+    let told = match decoded {
+        Ok(inst) => Ok(inst.length),
+        Err(refused) => Err(refused.why),
+    };
+    refusal::leave(told, length)
 }
 
 pub fn m16c_operand_number(numbers: &[u32], k: usize, number: &mut i64) -> u32

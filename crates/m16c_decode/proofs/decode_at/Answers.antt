@@ -1,11 +1,9 @@
 -- `m16c_decode::decode_at` meets its contract.
 -- Assumes nothing.
-use mathlib.Core.Path.{ap, ◌∙◌}
+use mathlib.Core.Path.{◌∙◌}
 use mathlib.Core.Bool.{false}
 use native.Mathlib.Omega.{arith}
 use Rattle.laws.proofs.Rest.{rest}
-use Rattle.rows.specs.Run.{decode_by}
-use Rattle.by_manual.specs.Table.{table_by}
 use Rattle.m16c_decode.proofs.Small.{small, same_small, no_room, keeps}
 use Rattle.m16c_decode.proofs.Few.{few, code_told}
 use Rattle.m16c_decode.proofs.decode_at.Goals as goal
@@ -34,12 +32,10 @@ returns-in_default-bs g c =
 
 pub fill_code-requires : goal.fill_code-requires
 fill_code-requires g c =
-    let bs = c.in-Some-get.bs.now in
-    same_small (code_told _ bs c.in-len2-up.len_at_least ∙ ap (decode_by (table_by _)) (c.in-Some-get.ensures.lookup.0.2 ∙ rest c.args.at c.args.image.now)) (small _ c.args.image.now c.args.at (λ i. omega (arith, c.type_inv.image i)))
+    same_small (code_told _ (c.in-Some-get.ensures.lookup.0.2 ∙ rest c.args.at c.args.image.now) c.in-len2-up.len_at_least)
+    (small _ c.args.image.now c.args.at (λ i. omega (arith, c.type_inv.image i)))
 
 pub returns : goal.returns
 returns g c =
-    let bs = c.in-Some-get.bs.now in
     keeps _ c.args.image.now c.args.at c.args.out.now c.in-Some.ensures.cases.enough
-    (code_told _ bs c.in-len2-up.len_at_least ∙ ap (decode_by (table_by _)) (c.in-Some-get.ensures.lookup.0.2 ∙ rest c.args.at c.args.image.now))
-    c.fill_code.ensures
+    (code_told _ (c.in-Some-get.ensures.lookup.0.2 ∙ rest c.args.at c.args.image.now) c.in-len2-up.len_at_least) c.fill_code.ensures
