@@ -63,8 +63,8 @@ module _ {a k : ℕ} (e : a ≡ k) (b : ℕ) where
   pub key_changed : {x : Bool} → is_changed (change_at k (b / 16) (b % 16)) ≡ x → is_changed (change_at a (b / 16) (b % 16)) ≡ x
   key_changed u = rw e u
 
-  pub key_kept : (m : Bool) (bs : List ℕ) {x : Answer} → Grouped k b bs x → (m ≡ false) ⊎ (is_changed (change_at k (b / 16) (b % 16)) ≡ false) → Right m a b bs x
-  key_kept m bs g o = rw e (by_group m k b bs o g)
+  pub alone : (m : Bool) (bs : List ℕ) {x : Answer} → Grouped k b bs x → (m ≡ false) ⊎ (is_changed (change_at k (b / 16) (b % 16)) ≡ false) → Right m a b bs x
+  alone m bs g o = rw e (by_group m k b bs o g)
 
 -- of two first bytes, the even one has width B
 module _ (a b even : ℕ) (low : even ≤ a) (high : a < even + 2) where
@@ -80,14 +80,14 @@ module _ (a b even : ℕ) (low : even ≤ a) (high : a < even + 2) where
     abbrev paired : ℕ → Answer
     paired a = run_row (row (width_at a) (b / 16) (b % 16)) bs
 
-    pub pair : Each (λ i. Grouped (even + i) b bs (paired (even + i))) 2 → Grouped a b bs (paired a)
-    pair e = each_from (λ a. Grouped a b bs (paired a)) even 2 e a low high
+    grouped : Each (λ i. Grouped (even + i) b bs (paired (even + i))) 2 → Grouped a b bs (paired a)
+    grouped e = each_from (λ a. Grouped a b bs (paired a)) even 2 e a low high
 
     -- an answer of the pair's group is right where the reading keeps its rows
-    pub pair_kept : (m : Bool) (change : Width → ℕ → ℕ → Change) → Each (λ i. Grouped (even + i) b bs (paired (even + i))) 2
+    pub pair : (m : Bool) (change : Width → ℕ → ℕ → Change) → Each (λ i. Grouped (even + i) b bs (paired (even + i))) 2
         → Each (λ i. change_at (even + i) ≡ change (width_at (even + i))) 2
         → (m ≡ false) ⊎ ((w : Width) → false ≡ is_changed (change w (b / 16) (b % 16))) → Right m a b bs (paired a)
-    pair_kept m change g e o = by_group m a b bs (kept o) (pair g)
+    pair m change g e o = by_group m a b bs (kept o) (grouped g)
       where
         kept : (m ≡ false) ⊎ ((w : Width) → false ≡ is_changed (change w (b / 16) (b % 16))) → (m ≡ false) ⊎ (is_changed (change_at a (b / 16) (b % 16)) ≡ false)
         kept (inl n) = inl n

@@ -12,7 +12,7 @@ use Rattle.rows.specs.Run.{run_row}
 use Rattle.rows.specs.Groups.{known, rows_of}
 use Rattle.by_manual.specs.Changed.{change74, change76, change_at}
 use Rattle.m16c_decode.proofs.Small.{same_small, same_filled}
-use Rattle.m16c_decode.proofs.There.{pair_changed, pair_kept, key_changed, key_kept, by_change, a_list, a_pair, outside}
+use Rattle.m16c_decode.proofs.There.{pair_changed, pair, key_changed, alone, by_change, a_list, a_pair, outside}
 use Rattle.m16c_decode.proofs.fill_code.Goals.{in_default-via-then-a-lt116, in_default-via-else-a-lt116+else-a-lt118+else-a-lt120+else-a-lt122}
 use Rattle.m16c_decode.proofs.fill_code.Goals.{else-this-ne0-5-via-then-this-ne0-5+else-in_74, else-this-ne0-5-via-else-this-ne0-5}
 use Rattle.m16c_decode.proofs.fill_code.Goals.{else-this-ne0-6-via-then-this-ne0-6+else-in_76, else-this-ne0-6-via-else-this-ne0-6}
@@ -29,7 +29,7 @@ pub fill_74-requires : goal.fill_74-requires
 unfolding known rows_of change_at
 fill_74-requires g c =
     same_small (
-    pair_kept c.args.a c.args.b 0x74 (omega arith) (omega arith) c.args.bs.now row74 _ change74 ((tt, refl), refl) ((tt, refl), refl) (
+    pair c.args.a c.args.b 0x74 (omega arith) (omega arith) c.args.bs.now row74 _ change74 ((tt, refl), refl) ((tt, refl), refl) (
     elim c.else-this-ne0-5.branch [
       | else-this-ne0-5-via-then-this-ne0-5+else-in_74 w ↦ inr (λ k. sym w.if-in_74.false ∙ w.in_74.ensures k)
       | else-this-ne0-5-via-else-this-ne0-5 w ↦ inl (rw w.if-this-ne0-5.false refl)
@@ -41,7 +41,7 @@ pub returns-else-this-ne0-5 : goal.returns-else-this-ne0-5
 unfolding known rows_of change_at
 returns-else-this-ne0-5 g c =
     same_filled (
-    pair_kept c.args.a c.args.b 0x74 (omega arith) (omega arith) c.args.bs.now row74 _ change74 ((tt, refl), refl) ((tt, refl), refl) (
+    pair c.args.a c.args.b 0x74 (omega arith) (omega arith) c.args.bs.now row74 _ change74 ((tt, refl), refl) ((tt, refl), refl) (
     elim c.else-this-ne0-5.branch [
       | else-this-ne0-5-via-then-this-ne0-5+else-in_74 w ↦ inr (λ k. sym w.if-in_74.false ∙ w.in_74.ensures k)
       | else-this-ne0-5-via-else-this-ne0-5 w ↦ inl (rw w.if-this-ne0-5.false refl)
@@ -59,7 +59,7 @@ pub fill_76-requires : goal.fill_76-requires
 unfolding known rows_of change_at
 fill_76-requires g c =
     same_small (
-    pair_kept c.args.a c.args.b 0x76 (omega arith) (omega arith) c.args.bs.now row76 _ change76 ((tt, refl), refl) ((tt, refl), refl) (
+    pair c.args.a c.args.b 0x76 (omega arith) (omega arith) c.args.bs.now row76 _ change76 ((tt, refl), refl) ((tt, refl), refl) (
     elim c.else-this-ne0-6.branch [
       | else-this-ne0-6-via-then-this-ne0-6+else-in_76 w ↦ inr (λ k. sym w.if-in_76.false ∙ w.in_76.ensures k)
       | else-this-ne0-6-via-else-this-ne0-6 w ↦ inl (rw w.if-this-ne0-6.false refl)
@@ -71,7 +71,7 @@ pub returns-else-this-ne0-6 : goal.returns-else-this-ne0-6
 unfolding known rows_of change_at
 returns-else-this-ne0-6 g c =
     same_filled (
-    pair_kept c.args.a c.args.b 0x76 (omega arith) (omega arith) c.args.bs.now row76 _ change76 ((tt, refl), refl) ((tt, refl), refl) (
+    pair c.args.a c.args.b 0x76 (omega arith) (omega arith) c.args.bs.now row76 _ change76 ((tt, refl), refl) ((tt, refl), refl) (
     elim c.else-this-ne0-6.branch [
       | else-this-ne0-6-via-then-this-ne0-6+else-in_76 w ↦ inr (λ k. sym w.if-in_76.false ∙ w.in_76.ensures k)
       | else-this-ne0-6-via-else-this-ne0-6 w ↦ inl (rw w.if-this-ne0-6.false refl)
@@ -89,7 +89,7 @@ pub fill_7C-requires : goal.fill_7C-requires
 unfolding known rows_of change_at
 fill_7C-requires g c =
     same_small {x = run_row (row_7C (c.args.b / 16) (c.args.b % 16)) c.args.bs.now} (
-    key_kept c.in-124.is c.args.b _ c.args.bs.now refl (
+    alone c.in-124.is c.args.b _ c.args.bs.now refl (
     elim c.else-this-ne0-2.branch [
       | else-this-ne0-2-via-then-this-ne0-2+else-in_7C w ↦ inr (sym (w.in_7C.ensures B) ∙ w.if-in_7C.false)
       | else-this-ne0-2-via-else-this-ne0-2 w ↦ inl (rw w.if-this-ne0-2.false refl)
@@ -101,7 +101,7 @@ pub returns-else-this-ne0-2 : goal.returns-else-this-ne0-2
 unfolding known rows_of change_at
 returns-else-this-ne0-2 g c =
     same_filled (
-    key_kept c.in-124.is c.args.b _ c.args.bs.now refl (
+    alone c.in-124.is c.args.b _ c.args.bs.now refl (
     elim c.else-this-ne0-2.branch [
       | else-this-ne0-2-via-then-this-ne0-2+else-in_7C w ↦ inr (sym (w.in_7C.ensures B) ∙ w.if-in_7C.false)
       | else-this-ne0-2-via-else-this-ne0-2 w ↦ inl (rw w.if-this-ne0-2.false refl)
