@@ -70,9 +70,9 @@ fn load_level(b: u8) -> Decoded
         return answer::refuse(Refusal::InvalidOperand, 2);
     }
     let number = if n < 4 {
-        n as u32
+        u32::from(n)
     } else {
-        0xFFFF_FFF8 + (n as u32)
+        0xFFFF_FFF8 + u32::from(n)
     };
     let face = Face {
         opcode: Opcode::LDIPL,
@@ -95,7 +95,7 @@ fn add_stack(b: u8) -> Decoded
         op1: Operand::SP,
         marked: true,
     };
-    Ok(face.with(answer::begin((b % 16 % 8) as u32)))
+    Ok(face.with(answer::begin(u32::from(b % 16 % 8))))
 }
 
 // From code 8 on; B and F name no condition.

@@ -127,12 +127,12 @@ pub fn decode_opEB(bs: &[u8], b: u8) -> Decoded
         return row_low(bs, b);
     }
     if b < 0xC0 {
-        return shift_long(b / 16, Operand::Imm4, (b % 16) as u32, false);
+        return shift_long(b / 16, Operand::Imm4, u32::from(b % 16), false);
     }
     let face = Face {
         opcode: Opcode::INT,
         op0: Operand::Imm8,
         ..NAMELESS
     };
-    Ok(face.with(answer::begin((b % 64) as u32)))
+    Ok(face.with(answer::begin(u32::from(b % 64))))
 }

@@ -114,8 +114,8 @@ pub fn value_of(f: Field, r: Record) -> u32
     match f {
         Field::Nowhere => 0,
         Field::Wide => r.imm_wide,
-        Field::Short => r.dispabs as u32,
-        Field::Early => r.first as u32,
+        Field::Short => u32::from(r.dispabs),
+        Field::Early => u32::from(r.first),
     }
 }
 

@@ -241,7 +241,7 @@ pub const NO_PARTS: Parts = Parts {
     imm_wide: NO_PART,
 };
 
-// What a refusal returns for a record.
+// The record that C is told of bytes that make no instruction.
 pub const BLANK: Record = Record {
     imm_wide: 0,
     dispabs: 0,

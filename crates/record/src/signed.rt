@@ -25,9 +25,9 @@ fn signed_byte(b: u8) -> i64
     ensures { result ≡ signed b }
 {
     if b < 0x80 {
-        return b as i64;
+        return i64::from(b);
     }
-    (b as i64) - 0x100
+    i64::from(b) - 0x100
 }
 
 // What a name's field holds, as a number.
@@ -37,7 +37,7 @@ pub fn number_of(o: Operand, v: u32) -> i64
     if is_signed(o) {
         return signed_byte((v % 0x100) as u8);
     }
-    v as i64
+    i64::from(v)
 }
 
 // Operand k. There are operands 0, 1 and 2.

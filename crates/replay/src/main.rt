@@ -120,7 +120,7 @@ fn replay_piece<R: Read, W: Write>(
     Ok(ControlFlow::Continue(tally))
 }
 
-// Nothing says that the input ends, so the pieces are counted down from a number that no run uses up.
+// Nothing says that the input ends, so the pieces are counted up to a number that no run reaches.
 fn replay<R: Read, W: Write>(input: &mut R, out: &mut W) -> io::Result<Tally> {
     let mut tally = Tally::default();
     for _ in 0..u64::MAX {

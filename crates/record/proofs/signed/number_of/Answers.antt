@@ -1,9 +1,8 @@
 -- `record::signed::number_of` meets its contract.
 -- Assumes nothing.
 use mathlib.Core.Path.{sym, ◌∙◌}
-use native.Mathlib.Omega.{arith}
 use mir.Syntax.{w64}
-use mir.Facts.{to_z-of_z, to_z_pos}
+use mir.Facts.{to_z-of_z}
 use Rattle.record.specs.Signed.{number_of}
 use Rattle.record.proofs.signed.number_of.Goals as goal
 
@@ -13,4 +12,4 @@ returns-then-is_signed c = rw (sym c.is_signed.ensures ∙ c.if-is_signed.true) 
 
 pub returns : goal.returns
 unfolding number_of
-returns c = rw (sym c.is_signed.ensures ∙ c.if-is_signed.false) (to_z_pos w64 (omega arith))
+returns c = rw (sym c.is_signed.ensures ∙ c.if-is_signed.false) (to_z-of_z {w = w64} (record { sfits = c.from.type_inv }) ∙ c.from.ensures)
