@@ -74,7 +74,7 @@ pub fn decode_by(manual: bool, image: &[u8], at: usize) -> Decoded
     decode_code(manual, bs, *a, *b)
 }
 
-// As document 01 has it.
+// As document 01 has it. (The two have a promise by name each, which PROMISES.md lists.)
 pub fn decode(image: &[u8], at: usize) -> Decoded
     ensures { answer_of result ≡ decode_rows (drop at image.now) }
 {

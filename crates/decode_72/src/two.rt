@@ -9,7 +9,7 @@ use readers::answer::{Decoded, Face};
 use readers::{answer, general};
 use record::Opcode;
 
-// By the first byte's eighth, from 80 on; 72 and 73 stand near the end.
+// By the first byte's eighth, from 80 on; 72 and 73 stand near the end. (NOP where no pair is, and no Option: `is_two` is asked before.)
 const OPCODES: [Opcode; 16] = [
     Opcode::TST,
     Opcode::XOR,
@@ -32,6 +32,7 @@ const OPCODES: [Opcode; 16] = [
 fn opcode_of(a: u8) -> Opcode
     ensures { result ≡ opcode_of a }
 {
+    // (`as` and no conversion, here and below: that is a call, one step more in each proof.)
     OPCODES[(a / 8 % 16) as usize]
 }
 

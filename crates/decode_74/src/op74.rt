@@ -68,6 +68,7 @@ fn other_74(byte: bool, h: u8) -> Operand
     if h == 12 {
         return numbers::immediate_name(byte);
     }
+    // (`as` and no conversion, here and below: that is a call, one step more in each proof.)
     OTHERS[h as usize]
 }
 

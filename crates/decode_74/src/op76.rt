@@ -49,6 +49,7 @@ fn unary_76(bs: &[u8], byte: bool, b: u8) -> Decoded
     let h = b / 16;
     let s = general::general(bs, answer::BEGIN, b % 16)?;
     let face = Face {
+        // (`as` and no conversion, here and below: that is a call, one step more in each proof.)
         opcode: OPCODES[h as usize],
         size: unary_size(byte, h),
         width: answer::width_of(byte),

@@ -11,7 +11,7 @@ use readers::{answer, control, general};
 use record::refusal::Refusal;
 use record::{Opcode, Size, Width};
 
-// STC: the control register is judged, then G read.
+// STC: the control register is judged, then G read. (LDC of 7A reads first, so the two are not one: a refusal takes other bytes.)
 fn store_control(bs: &[u8], b: u8) -> Decoded
     ensures { answer_of result ≡ run_row (stc (b / 16 % 8) (b % 16)) bs.now }
 {
@@ -29,6 +29,7 @@ fn store_control(bs: &[u8], b: u8) -> Decoded
     Ok(face.with(s))
 }
 
+// (As 7A but for width and control row: one function for both would ask its caller's width again in each arm.)
 pub fn decode_op7B(bs: &[u8], b: u8) -> Decoded
     ensures { answer_of result ≡ run_row (row_7B (b / 16) (b % 16)) bs.now }
 {

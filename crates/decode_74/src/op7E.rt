@@ -74,6 +74,7 @@ fn conditional(bs: &[u8], name: Operand, s: Seen) -> Decoded
     }
     let c = bs[at];
     let t = Seen { taken: at + 1, ..s };
+    // (`as` and no conversion, here and below: that is a call, one step more in each proof.)
     let row = bit_row(CONDITIONS[(c % 16) as usize], name, t);
     if c < 0x07 {
         return Ok(row);

@@ -26,6 +26,7 @@ fn nibble_mark(b: u8) -> bool
     ensures { result ≡ nibble_mark (b / 16) (b % 16) }
 {
     let meant = set::has(0xFFCE, b % 16);
+    // (`as` and no conversion, here and below: that is a call, one step more in each proof.)
     MIXED[(b / 16 % 4) as usize] & meant
 }
 

@@ -16,6 +16,7 @@ const AT_W: Face = Face {
     ..NAMELESS
 };
 
+// (decode_changed has one of its own: there h is 2 or 3, and its row says so.)
 fn jump_opcode(h: u8) -> Opcode
     ensures { result ≡ opcode_J h }
 {
@@ -118,6 +119,7 @@ fn jump(bs: &[u8], b: u8) -> Decoded
     if n < 8 {
         return answer::refuse(Refusal::InvalidOpcode, 2);
     }
+    // (`as` and no conversion, here and below: that is a call, one step more in each proof.)
     let Some(opcode) = JUMPS[(n % 8) as usize] else {
         return answer::refuse(Refusal::InvalidOpcode, 2);
     };

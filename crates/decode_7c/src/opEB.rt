@@ -11,7 +11,7 @@ use readers::{control, general, numbers};
 use record::refusal::Refusal;
 use record::{Opcode, Operand, Size, Width};
 
-// LDC Imm16: the control register is judged before the two bytes.
+// LDC Imm16: the control register is judged before the two bytes. (PUSHC and POPC read none behind that, so only the judging is alike.)
 fn load_control(bs: &[u8], b: u8) -> Decoded
     ensures { answer_of result ≡ run_row (row_EB_low (b / 16 % 8) 0) bs.now }
 {

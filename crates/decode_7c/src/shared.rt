@@ -11,7 +11,7 @@ use readers::{mul, numbers, set};
 use record::refusal::Refusal;
 use record::{Opcode, Operand, Size, Width};
 
-// MULU and MUL with an immediate: the destination is judged by n, and is A0 or A1 all the same.
+// MULU and MUL with an immediate: the destination is judged by n, and is A0 or A1 all the same. (Bools, as the width is one: see `width_of`.)
 pub fn mul_immediate(bs: &[u8], byte: bool, unsigned: bool, b: u8) -> Decoded
     ensures { answer_of result ≡ run_row (mul_by unsigned (width_of byte) (b % 16)) bs.now }
 {
@@ -102,6 +102,7 @@ pub fn row_E(bs: &[u8], byte: bool, b: u8) -> Decoded
     // DADD and the like
     let decimal = 4 <= n % 8;
     let face = Face {
+        // (`as` and no conversion, here and below: that is a call, one step more in each proof.)
         opcode: OPCODES[n as usize],
         size: size_E(byte, decimal),
         width: answer::width_of(byte),

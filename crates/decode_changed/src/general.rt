@@ -55,7 +55,8 @@ pub fn alone(bs: &[u8], byte: bool, b: u8) -> Decoded
     Ok(face.with(s))
 }
 
-// 7A from 80 on, LDC: G is read, then the control register judged. The names are those at W.
+// 7A from 80 on, LDC: G is read, then the control register judged. The names are those at W. (Document 01's row, in decode_74, differs in
+// these and its mark; a function for both would lie in a crate below both readings, for two values.)
 pub fn load_control(bs: &[u8], b: u8) -> Decoded
     ensures { answer_of result ≡ run_row (ldc (b / 16 % 8) (b % 16)) bs.now }
 {

@@ -12,6 +12,8 @@ use readers::answer::{Decoded, Face, NAMELESS};
 use record::refusal::Refusal;
 use record::{Opcode, Operand, Size, Width};
 
+// The rows of 7D of which document 01's have marks or numbers of their own: those of decode_7c are other rows, and no value tells them apart.
+
 // 7D An, LDIPL: 0 to 7.
 pub(crate) fn load_level(b: u8) -> Decoded
     ensures { (bs : List ℕ) → answer_of result ≡ run_row (ldipl (b % 16)) bs }
@@ -29,7 +31,7 @@ pub(crate) fn load_level(b: u8) -> Decoded
     Ok(face.with(answer::begin(u32::from(n))))
 }
 
-// Four bits, with their sign.
+// Four bits, with their sign. (`extended` of encode_added says it of a word: neither crate stands on the other.)
 fn sign_extend(n: u8) -> u32
     requires { n < 16 }
     ensures { result ≡ signed4 n }

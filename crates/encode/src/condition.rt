@@ -6,7 +6,7 @@ ghost use Rattle.encode.specs.steps.Faced as faced;
 
 use record::Opcode;
 
-// 0 for an opcode that is none.
+// 0 for an opcode that is none. (No Option: `cond_byte` of encode_rules says 0 of these.)
 #[tactic(auto, unfolding(encode_rules::specs::steps::Search::cond_byte, rows::specs::Codes::cond_of))]
 pub(crate) fn byte_of(o: Opcode) -> u8
     ensures { result ≡ cond_byte o }

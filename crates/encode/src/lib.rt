@@ -21,7 +21,8 @@ use plan::{Number, Plan};
 use record::refusal::Refusal;
 use record::{Operand, Record};
 
-// How the code that a reading chooses encodes a record: its row has the names that were asked for, and no row has a third.
+// How the code that a reading chooses encodes a record: its row has the names that were asked for, and no row has a third. (A bool for the
+// reading: an enum is passed by its address, see docs/DECISIONS.md.)
 fn find(r: Record, manual: bool) -> Option<Plan>
     ensures { found_by result ≡ encoded_by manual r }
 {

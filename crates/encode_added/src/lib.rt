@@ -13,13 +13,14 @@ ghost use Rattle.encode_added.specs.steps.Chosen.{chosen};
 use encode_choice::{Asked, Code};
 use record::Opcode;
 
-// A code, and whether it is all: then operand 0's number is part of it, and no bytes follow.
+// A code, and whether it is all: then operand 0's number is part of it, and no bytes follow. (There is a code either way, so no Option.)
 #[derive(Clone, Copy)]
 pub struct Chosen {
     pub code: Code,
     pub whole: bool,
 }
 
+// (A bool for the reading: an enum is passed by its address, see docs/DECISIONS.md.)
 fn changes(manual: bool, o: Opcode, q: Asked) -> bool
     ensures { result ≡ choice.changes manual o q }
 {

@@ -106,7 +106,7 @@ fn at_none(k: Kind) -> Sets
     }
 }
 
-// (Of most opcodes no row is changed: they are told first, before any set is looked up.)
+// (Of most opcodes no row is changed: they are told first, before any set is looked up. So it is no instance of `goes_with`, which looks up each.)
 #[tactic(auto, unfolding(crate::specs::steps::Entries::goes_as, record::specs::Same::among))]
 pub(crate) fn goes(o: Opcode, q: Asked) -> bool
     ensures { result ≡ entries.goes o q }

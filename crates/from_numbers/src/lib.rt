@@ -7,7 +7,7 @@ ghost use Rattle.from_numbers.specs.Made.{valid, made_of, record_of};
 
 use record::{Opcode, Operand, Record, Size, Width, names};
 
-// Whether the first twelve numbers make a record.
+// Whether the first twelve numbers make a record. (A bool beside `record_of`: an Option of a record takes more, see docs/DECISIONS.md.)
 #[tactic(auto, using(crate::proofs::Valid::refused, crate::proofs::Valid::accepted))]
 pub fn is_record(numbers: &[u32]) -> bool
     ensures { result ≡ valid numbers.now }
@@ -45,7 +45,7 @@ fn made_of(numbers: &[u32]) -> Record
     }
 }
 
-// The record that numbers make; of numbers that make none, the blank record.
+// The record that numbers make; of numbers that make none, the blank record, so that what rests on it needs no clause for them.
 #[tactic(auto, using(crate::proofs::Valid::bounded))]
 pub fn record_of(numbers: &[u32]) -> Record
     ensures { result ≡ record_of numbers.now }

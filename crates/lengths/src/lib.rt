@@ -45,7 +45,7 @@ pub fn told(entry: u32) -> Length
     }
 }
 
-// The same of a character of the table.
+// The same of a character of the table, which is a text: a byte an entry, where an enum or an Option would take more.
 fn told_by(c: u8) -> Result<usize, Refusal>
     requires { IsTrue (entries.is_entry c) }
     ensures { (refusal_in result ≡ entries.refusal_in (entries.value_of c)) × (length_in result ≡ entries.length_in (entries.value_of c)) }

@@ -3,7 +3,7 @@ ghost use Rattle.list_image.specs.Asked.{AsksFor};
 
 use sweep::Rule;
 
-// By the manual or by document 01, and by a rule.
+// By the manual or by document 01, and by a rule. (A bool for the reading, as in `listing::list`, to which it goes.)
 #[derive(Clone, Copy)]
 pub struct Asked {
     pub manual: bool,

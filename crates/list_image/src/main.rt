@@ -19,7 +19,7 @@ fn list<R: Read, W: Write>(manual: bool, rule: Rule, input: &mut R, out: &mut W)
     listing::list(manual, rule, &image[..n], out)
 }
 
-// How many words the command line has, the program's own name among them.
+// How many words the command line has, the program's own name among them. (It tells them one by one, so they are counted.)
 fn word_count(env: &impl Env) -> usize {
     let mut word = [0u8; 16];
     for i in 0..usize::MAX {
@@ -30,7 +30,7 @@ fn word_count(env: &impl Env) -> usize {
     usize::MAX
 }
 
-// A word too long for its buffer comes as none, and is not known either.
+// A word too long for its buffer comes as none, and is not known either. (None has length 0: how many there are tells it from an empty one.)
 fn word(env: &impl Env, i: usize, out: &mut [u8; 16]) -> usize
     ensures { result ≤ 16 }
 {

@@ -10,6 +10,7 @@ use std::io::{Read, Write};
 // A thousand questions.
 const PIECE: usize = 3 * 1000;
 
+// The function that C calls is asked, refusal and length apart.
 fn tell<W: Write>(bytes: &[u8], out: &mut W) -> io::Result<()> {
     let mut length: usize = 0;
     let refusal = m16c_length::m16c_length(bytes, &mut length);
@@ -35,6 +36,7 @@ fn tell_all<W: Write>(text: &[u8], out: &mut W) -> io::Result<()> {
     Ok(())
 }
 
+// Whether there may be more: a piece that is not full is the last. (A bool, as it carries nothing.)
 fn tell_piece<R: Read, W: Write>(input: &mut R, out: &mut W) -> io::Result<bool> {
     let mut text = [0u8; PIECE];
     let n = reading::read_full(input, &mut text)?;

@@ -12,11 +12,13 @@ use std::io;
 use std::io::Write;
 use sweep::Rule;
 
+// (A bool for the reading, here and below, as in `decode::decode_by`.)
 pub fn list<W: Write>(manual: bool, rule: Rule, image: &[u8], out: &mut W) -> io::Result<()>
     ensures { OnOk result (Appends (W.contents out.old) (W.contents out.new) (listing (table_by manual) rule image.now)) }
 {
     let mut piece = [0u8; 8192];
     let mut next = Some(page::first(image));
+    // (No iterator: each page fills the one buffer.)
     while let Some(here) = next {
         let p = page::fill(manual, rule, image, here, &mut piece);
         out.write_all(&piece[..p.length])?;

@@ -77,7 +77,7 @@ fn behind(rule: Rule, place: usize, here: Option<Decoded>) -> Option<usize>
     }
 }
 
-// What is listed of an image from a place on, as far as whole lines fit.
+// What is listed of an image from a place on, as far as whole lines fit. (No `for`: a place moves on by what was decoded.)
 fn fill_lines(manual: bool, rule: Rule, image: &[u8], from: usize, out: &mut [u8]) -> Page
     ensures { Filled (table_by manual) rule image.now (Next.From from) (length out.old) result out.new }
 {

@@ -105,7 +105,7 @@ pub fn m16c_decode_manual(image: &[u8], at: usize, out: &mut [u32]) -> u32
     decode_at::<true>(image, at, out)
 }
 
-// For the small archive, which has the decoder once: either reading.
+// For the small archive, which has the decoder once: either reading. (A bool, as in `decode::decode_by`.)
 pub fn decode_into(manual: bool, image: &[u8], at: usize, out: &mut [u32]) -> u32
     ensures { Decodes (table_by manual) image.now at out.old result out.new }
 {

@@ -12,7 +12,7 @@ use record::refusal;
 use record::refusal::Refusal;
 
 // The record of the first twelve numbers that m16c_decode fills, from a place of a buffer on. Taken, length and marked do not count, nor
-// what stands behind.
+// what stands behind. (A bool for the reading, as in `encode::encode`.)
 pub fn encode_numbers(
     numbers: &[u32],
     buf: &mut [u8],

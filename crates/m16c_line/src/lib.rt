@@ -8,7 +8,7 @@ ghost use Rattle.m16c_line.specs.Lined.{Lines};
 
 use record::refusal;
 
-// By document 01 or by the manual.
+// By document 01 or by the manual. (A bool, as in `decode::decode_by`.)
 pub fn line_by(
     manual: bool,
     image: &[u8],

@@ -9,6 +9,7 @@ use record::fields::Field;
 use record::refusal::Refusal;
 use record::signed;
 
+// What C is told of a field: there is no Result here, since its number is left either way.
 fn refusal_of(f: Field) -> u32
     ensures { result ≡ refusal_of f }
 {

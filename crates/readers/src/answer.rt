@@ -32,7 +32,7 @@ pub const NAMELESS: Face = Face {
 };
 
 impl Face {
-    // The record of a row whose reads found this.
+    // The record of a row whose reads found this. (No From: it takes two values.)
     pub fn with(self, s: Seen) -> Record
         ensures { answer_of (Ok result) ≡ accepted self.opcode self.size self.width self.op0 self.op1 self.marked s }
     {
@@ -62,7 +62,8 @@ pub fn refuse(why: Refusal, taken: usize) -> Decoded
     Err(Refused { why, taken })
 }
 
-// The width of an even first byte is B, of an odd one W. (A bool tells them apart: `Width` has a third, and an enum is passed by its address.)
+// The width of an even first byte is B, of an odd one W. (A bool tells them apart, in all groups: `Width` has a third, and an enum is passed by
+// its address.)
 pub fn width_of(byte: bool) -> Width
     ensures { result ≡ width_of byte }
 {

@@ -30,6 +30,7 @@ const NAMES: [Operand; 16] = [
 pub fn bit_name(code: u8) -> Operand
     ensures { result ≡ name_T (code % 16) }
 {
+    // (`as` and no conversion, here and below: that is a call, one step more in each proof.)
     NAMES[(code % 16) as usize]
 }
 

@@ -18,5 +18,6 @@ const NAMES: [Operand; 8] = [
 pub fn control_name(code: u8) -> Operand
     ensures { result ≡ name_K (code % 8) }
 {
+    // (`as` and no conversion, here and below: that is a call, one step more in each proof.)
     NAMES[(code % 8) as usize]
 }

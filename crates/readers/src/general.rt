@@ -9,7 +9,8 @@ use record::refusal::Refused;
 use record::{Operand, Seen};
 
 // Names by code: at W, at B, then what other forms have in place of those at W: pairs at codes 0 to 5, J at C and D. One table, so
-// that a width picks a place in it; sharing the twelve names from A0 on takes more code than it saves.
+// that a width picks a place in it; sharing the twelve names from A0 on takes more code than it saves. Nothing stands where no pair is,
+// as `name_P` of rows/specs/Codes has it: J refuses these codes itself.
 pub(crate) const NAMES: [Operand; 40] = [
     Operand::R0,
     Operand::R1,
@@ -57,6 +58,7 @@ pub(crate) const NAMES: [Operand; 40] = [
 pub fn general_name(byte: bool, code: u8) -> Operand
     ensures { result ≡ name_G (width_of byte) (code % 16) }
 {
+    // (`as` and no conversion, here and below: that is a call, one step more in each proof.)
     let n = (code % 16) as usize;
     if byte { NAMES[16 + n] } else { NAMES[n] }
 }

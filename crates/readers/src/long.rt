@@ -28,6 +28,7 @@ fn long_place(n: usize) -> usize
 pub fn pair_name(code: u8) -> Operand
     ensures { (w : Width) → result ≡ name_P w (code % 16) }
 {
+    // (`as` and no conversion, here and below: that is a call, one step more in each proof.)
     general::NAMES[pair_place((code % 16) as usize)]
 }
 

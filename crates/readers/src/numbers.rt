@@ -54,6 +54,7 @@ fn with_disp(s: Seen, width: u8, number: u16) -> Seen
             dispabs: part(s.taken, width),
             ..s.parts
         },
+        // (`as` and no conversion, here and below: that is a call, one step more in each proof.)
         taken: s.taken + (width as usize),
         ..s
     }
@@ -76,6 +77,7 @@ fn with_imm(s: Seen, width: u8, number: u32, dropped: bool) -> Seen
     }
 }
 
+// (Four, and none over N: how a number comes of its bytes differs, and each states another read of a row.)
 // One byte into dispabs; first keeps what it had.
 pub fn disp_byte(bs: &[u8], s: Seen) -> Result<Seen, Refused>
     ensures { result ≡ found_in (disp 1) bs.now s }

@@ -1,4 +1,4 @@
-// A set of numbers below 32: the bits of one number.
+// A set of numbers below 32: the bits of one number. (In place of a match: docs/DECISIONS.md has what it saves.)
 ghost use Rattle.std.specs.Prelude.{◌≡◌};
 ghost use Rattle.readers.specs.steps.Set.{holds};
 

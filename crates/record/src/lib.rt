@@ -1,5 +1,6 @@
 // What an instruction is, and what a decoder answers: names, numbers and nothing else.
 // Names are spelled as in the Rust and in document 01. `NOP`, `None` and `Nothing` stand first: they are what the blank record holds.
+// (They are names and no Options, since document 01 has them among the others and C is told their number, 0.)
 
 #![tactic(auto)]
 
@@ -228,7 +229,7 @@ pub struct Record {
     pub parts: Parts,
 }
 
-// No byte was read for it.
+// No byte was read for it. (No Option: C is told 0 and 0 then, as `no_part` of record/specs/Parts says.)
 pub const NO_PART: Part = Part {
     offset: 0,
     width: 0,

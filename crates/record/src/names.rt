@@ -1,4 +1,4 @@
-// The name of each number; a number too large names what the blank record holds. That is tested before the match, so that behind a
+// The name of each number; a number too large names what the blank record holds (so From, no TryFrom). That is tested before the match, so that behind a
 // caller's own test nothing is left of either: the number is the name. (Of a match with three arms the compiler makes choices, so the
 // widths have a fourth.)
 // Made by scripts/tables/make-names from the enums of crates/record/src/lib.rt.

@@ -1,4 +1,4 @@
-// The number of each name: its place in its enum.
+// The number of each name: its place in its enum. (Four impls: `as` takes one enum, and each states a table of its own.)
 ghost use Rattle.std.specs.Prelude.{◌≡◌};
 ghost use Rattle.record.specs.Numbers.{opcode_no, size_no, width_no, operand_no};
 

@@ -30,6 +30,7 @@ pub(crate) fn digit_at(text: &[u8], at: usize) -> u8
     digit(text[at])
 }
 
+// (A text and a place, no slice of what is read: places are those of the form, which specs/ name.)
 pub(crate) fn byte_at(text: &[u8], at: usize) -> u8
     requires { at + 2 ≤ length text.now }
     ensures { (result ≡ byte_at text.now at) × (result < 256) }

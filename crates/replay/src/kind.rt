@@ -1,5 +1,5 @@
 // What a line of the stored list holds: a record to encode by a reading, an image to sweep by a rule, a record with an operand to ask for, bytes whose
-// numbers are to be placed, or bytes to decode.
+// numbers are to be placed, or bytes to decode. (A bool for the reading, as in `encode::encode`.)
 ghost use Rattle.std.specs.Prelude.{◌≡◌};
 ghost use Rattle.replay.specs.Line.{kind_of};
 

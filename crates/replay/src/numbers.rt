@@ -1,4 +1,5 @@
-// An answer in numbers: those that a line of the list holds, and those of what the decoder says.
+// An answer in numbers: those that a line of the list holds, and those of what the decoder says. (The refusal too: a line may hold one that
+// there is none of, 8 to F.)
 ghost use Rattle.std.specs.Prelude.{◌≡◌};
 ghost use Rattle.record.specs.Answer.{answer_of};
 ghost use Rattle.replay.specs.Numbers.{numbers_in, numbers_of};

@@ -69,7 +69,8 @@ pub fn sweep_manual_stopping(image: &[u8], starts: &mut [u16]) -> Result<Swept, 
 }
 
 // A run stops at a refused place; by the rule of going on another begins behind it. The loop over runs is apart from the loop over
-// instructions, since one loop for both takes more machine instructions than a sweep did that could only stop.
+// instructions, since one loop for both takes more machine instructions than a sweep did that could only stop. (No `for` in either: a place
+// moves on by what was decoded.)
 fn sweep_by(manual: bool, rule: Rule, image: &[u8], starts: &mut [u16]) -> Result<Swept, Refusal>
     ensures { Sweeps (table_by manual) rule image.now starts.old (swept_of result) starts.new }
 {

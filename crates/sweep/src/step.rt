@@ -7,7 +7,7 @@ ghost use Rattle.sweep.specs.Walk.{step_at};
 
 use readers::answer::Decoded;
 
-// What decoding there says; none at the image's end.
+// What decoding there says; none at the image's end. (A bool for the reading, as in `decode::decode_by`.)
 pub fn step_at(manual: bool, image: &[u8], place: usize) -> Option<Decoded>
     ensures { standing result ≡ step_at (decode_by (table_by manual)) image.now place }
 {
