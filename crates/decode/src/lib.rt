@@ -53,9 +53,9 @@ pub fn decode_few(image: &[u8], at: usize) -> Decoded
     ensures { (manual : Bool) → answer_of result ≡ decode_by (table_by manual) (take 1 (drop at image.now)) }
 {
     match image.get(at) {
-        None => answer::refuse(Refusal::ExhaustedInput, 0),
-        Some(a) if in_part(*a) => answer::refuse(Refusal::ExhaustedInput, 1),
-        Some(_) => answer::refuse(Refusal::FirstByteOutside, 1),
+        None => answer::refuse_for(Refusal::ExhaustedInput, 0),
+        Some(a) if in_part(*a) => answer::refuse_for(Refusal::ExhaustedInput, 1),
+        Some(_) => answer::refuse_for(Refusal::FirstByteOutside, 1),
     }
 }
 
@@ -68,10 +68,11 @@ pub fn decode_by(manual: bool, image: &[u8], at: usize) -> Decoded
         return decode_few(image, at);
     }
     let bs = &image[at..];
-    let [a, b, ..] = bs else {
+    // (No slice pattern: by one the first byte is read into two registers, and a sweep takes an instruction more for each of its own.)
+    if bs.len() < 2 {
         return decode_few(image, at);
-    };
-    decode_code(manual, bs, *a, *b)
+    }
+    decode_code(manual, bs, bs[0], bs[1])
 }
 
 // As document 01 has it. (The two have a promise by name each, which PROMISES.md lists.)

@@ -56,5 +56,5 @@ pub fn decode_added(bs: &[u8], a: u8, b: u8) -> Decoded
     if 0xC1 < a && is_list(a) {
         return list::decode_list(a, b);
     }
-    answer::refuse(Refusal::FirstByteOutside, 1)
+    answer::refuse_for(Refusal::FirstByteOutside, 1)
 }

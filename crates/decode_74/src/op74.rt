@@ -114,7 +114,7 @@ pub fn decode_op74(bs: &[u8], byte: bool, b: u8) -> Decoded
     let h = b / 16;
     let n = b % 16;
     if stop_74(byte, h, n) {
-        return answer::refuse(Refusal::InvalidOperand, 2);
+        return answer::refuse_for(Refusal::InvalidOperand, 2);
     }
     let s = general::general(bs, answer::BEGIN, n)?;
     let t = rest_74(bs, byte, h, s)?;

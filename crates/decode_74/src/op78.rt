@@ -17,7 +17,7 @@ pub fn decode_op78(bs: &[u8], byte: bool, b: u8) -> Decoded
 {
     let s = general::general(bs, answer::BEGIN, b / 16)?;
     if mul::bad_mul(byte, b % 16) {
-        return answer::refuse(Refusal::InvalidOperand, s.taken);
+        return answer::refuse_for(Refusal::InvalidOperand, s.taken);
     }
     let t = general::general(bs, s, b % 16)?;
     let face = Face {

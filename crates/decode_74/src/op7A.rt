@@ -17,7 +17,7 @@ fn load_control(bs: &[u8], b: u8) -> Decoded
 {
     let s = general::general(bs, answer::BEGIN, b % 16)?;
     if b / 16 % 8 == 0 {
-        return answer::refuse(Refusal::InvalidOperand, s.taken);
+        return answer::refuse_for(Refusal::InvalidOperand, s.taken);
     }
     let face = Face {
         opcode: Opcode::LDC,
@@ -37,7 +37,7 @@ pub fn decode_op7A(bs: &[u8], b: u8) -> Decoded
         return load_control(bs, b);
     }
     if 0x40 <= b {
-        return answer::refuse(Refusal::InvalidOperand, 2);
+        return answer::refuse_for(Refusal::InvalidOperand, 2);
     }
     exchange::exchange(bs, true, b)
 }

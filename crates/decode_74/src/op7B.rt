@@ -16,7 +16,7 @@ fn store_control(bs: &[u8], b: u8) -> Decoded
     ensures { answer_of result ≡ run_row (stc (b / 16 % 8) (b % 16)) bs.now }
 {
     if b / 16 % 8 == 0 {
-        return answer::refuse(Refusal::InvalidOperand, 2);
+        return answer::refuse_for(Refusal::InvalidOperand, 2);
     }
     let s = general::general(bs, answer::BEGIN, b % 16)?;
     let face = Face {
@@ -37,7 +37,7 @@ pub fn decode_op7B(bs: &[u8], b: u8) -> Decoded
         return store_control(bs, b);
     }
     if 0x40 <= b {
-        return answer::refuse(Refusal::InvalidOperand, 2);
+        return answer::refuse_for(Refusal::InvalidOperand, 2);
     }
     exchange::exchange(bs, false, b)
 }

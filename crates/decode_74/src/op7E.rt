@@ -70,7 +70,7 @@ fn conditional(bs: &[u8], name: Operand, s: Seen) -> Decoded
 {
     let at = s.taken;
     if bs.len() <= at {
-        return answer::refuse(Refusal::ExhaustedInput, bs.len());
+        return answer::refuse_for(Refusal::ExhaustedInput, bs.len());
     }
     let c = bs[at];
     let t = Seen { taken: at + 1, ..s };
@@ -80,12 +80,12 @@ fn conditional(bs: &[u8], name: Operand, s: Seen) -> Decoded
         return Ok(row);
     }
     if c < 0xF8 {
-        return answer::refuse(Refusal::InvalidOpcode, at + 1);
+        return answer::refuse_for(Refusal::InvalidOpcode, at + 1);
     }
     if c < 0xFF {
         return Ok(row);
     }
-    answer::refuse(Refusal::InvalidOpcode, at + 1)
+    answer::refuse_for(Refusal::InvalidOpcode, at + 1)
 }
 
 pub fn decode_op7E(bs: &[u8], b: u8) -> Decoded
@@ -93,7 +93,7 @@ pub fn decode_op7E(bs: &[u8], b: u8) -> Decoded
 {
     let h = b / 16;
     if 14 <= h {
-        return answer::refuse(Refusal::InvalidOpcode, 2);
+        return answer::refuse_for(Refusal::InvalidOpcode, 2);
     }
     let name = bit::bit_name(b);
     let s = bit::bit(bs, answer::BEGIN, b % 16)?;

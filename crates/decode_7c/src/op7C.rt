@@ -58,7 +58,7 @@ fn extend_byte(bs: &[u8], b: u8) -> Decoded
 {
     // 1, 3, 4 and 5
     if set::has(0x3A, b % 16) {
-        return answer::refuse(Refusal::InvalidOperand, 2);
+        return answer::refuse_for(Refusal::InvalidOperand, 2);
     }
     let s = general::general(bs, BEGIN, b % 16)?;
     let face = Face {
@@ -74,7 +74,7 @@ fn extend_pair(bs: &[u8], b: u8) -> Decoded
     ensures { answer_of result ≡ run_row (exts_C (b % 16)) bs.now }
 {
     if long::long_refused(b % 16) {
-        return answer::refuse(Refusal::InvalidOperand, 2);
+        return answer::refuse_for(Refusal::InvalidOperand, 2);
     }
     let s = general::general(bs, BEGIN, b % 16)?;
     let face = Face {
@@ -117,7 +117,7 @@ fn row_F(bs: &[u8], b: u8) -> Decoded
             op0: Operand::R0,
             ..AT_B
         },
-        _ => return answer::refuse(Refusal::InvalidOpcode, 2),
+        _ => return answer::refuse_for(Refusal::InvalidOpcode, 2),
     };
     Ok(face.with(BEGIN))
 }
@@ -129,7 +129,7 @@ pub fn decode_op7C(bs: &[u8], b: u8) -> Decoded
         4 => shared::mul_immediate(bs, true, true, b),
         5 => shared::mul_immediate(bs, true, false, b),
         6 => extend_byte(bs, b),
-        7 | 13 => answer::refuse(Refusal::InvalidOpcode, 2),
+        7 | 13 => answer::refuse_for(Refusal::InvalidOpcode, 2),
         12 => extend_pair(bs, b),
         14 => shared::row_E(bs, true, b),
         15 => row_F(bs, b),

@@ -1,8 +1,8 @@
-ghost use Rattle.std.specs.Prelude.{◌≡◌, List, ℕ, ◌/◌, ◌%◌};
+ghost use Rattle.std.specs.Prelude.{◌≡◌, ◌<◌, List, ℕ, ◌/◌, ◌%◌};
 ghost use Rattle.record.specs.Answer.{answer_of};
 ghost use Rattle.rows.specs.Rows.{add_SP, ldipl, pusha, row_7D, row_7DC, row_7DD, row_7DF};
 ghost use Rattle.rows.specs.Run.{run_row};
-ghost use Rattle.decode_7c.specs.steps.Op7D.{opcode_J, jump_by};
+ghost use Rattle.decode_7c.specs.steps.Op7D.{opcode_J, signed3, jump_by};
 
 use crate::shared;
 use readers::answer::{self, BEGIN, Decoded, Face, NAMELESS};
@@ -32,7 +32,7 @@ fn indirect(bs: &[u8], b: u8) -> Decoded
     ensures { answer_of result ≡ run_row (jump_by (b / 16) (b % 16)) bs.now }
 {
     if long::long_refused(b % 16) {
-        return answer::refuse(Refusal::InvalidOperand, 2);
+        return answer::refuse_for(Refusal::InvalidOperand, 2);
     }
     let s = long::long(bs, BEGIN, b % 16)?;
     let h = b / 16;
@@ -51,7 +51,7 @@ fn push_address(bs: &[u8], b: u8) -> Decoded
 {
     let n = b % 16;
     if n < 8 {
-        return answer::refuse(Refusal::InvalidOperand, 2);
+        return answer::refuse_for(Refusal::InvalidOperand, 2);
     }
     let s = general::general(bs, BEGIN, n)?;
     let face = Face {
@@ -62,26 +62,32 @@ fn push_address(bs: &[u8], b: u8) -> Decoded
     Ok(face.with(s))
 }
 
-// LDIPL: the number is part of the code, three bits with their sign.
+// Three bits with their sign.
+fn sign_extend(n: u8) -> u32
+    requires { n < 8 }
+    ensures { result ≡ signed3 n }
+{
+    if n < 4 {
+        return u32::from(n);
+    }
+    0xFFFF_FFF8 + u32::from(n)
+}
+
+// LDIPL: the number is part of the code.
 fn load_level(b: u8) -> Decoded
     ensures { (bs : List ℕ) → answer_of result ≡ run_row (ldipl (b % 16)) bs }
 {
     let n = b % 16;
     if 8 <= n {
-        return answer::refuse(Refusal::InvalidOperand, 2);
+        return answer::refuse_for(Refusal::InvalidOperand, 2);
     }
-    let number = if n < 4 {
-        u32::from(n)
-    } else {
-        0xFFFF_FFF8 + u32::from(n)
-    };
     let face = Face {
         opcode: Opcode::LDIPL,
         op0: Operand::Imm8,
         marked: true,
         ..AT_W
     };
-    Ok(face.with(answer::begin(number)))
+    Ok(face.with(answer::begin(sign_extend(n))))
 }
 
 // ADD Imm8,SP: the number is part of the code.
@@ -117,11 +123,11 @@ fn jump(bs: &[u8], b: u8) -> Decoded
 {
     let n = b % 16;
     if n < 8 {
-        return answer::refuse(Refusal::InvalidOpcode, 2);
+        return answer::refuse_for(Refusal::InvalidOpcode, 2);
     }
     // (`as` and no conversion, here and below: that is a call, one step more in each proof.)
     let Some(opcode) = JUMPS[(n % 8) as usize] else {
-        return answer::refuse(Refusal::InvalidOpcode, 2);
+        return answer::refuse_for(Refusal::InvalidOpcode, 2);
     };
     let s = numbers::imm_byte(bs, BEGIN)?;
     let face = Face {
@@ -158,7 +164,7 @@ fn conditional(b: u8) -> Decoded
 {
     let n = b % 16;
     let Some(opcode) = CONDITIONS[n as usize] else {
-        return answer::refuse(Refusal::InvalidOpcode, 2);
+        return answer::refuse_for(Refusal::InvalidOpcode, 2);
     };
     let face = Face {
         opcode,
@@ -188,7 +194,7 @@ fn row_F(bs: &[u8], b: u8) -> Decoded
             opcode: Opcode::WAIT,
             ..AT_W
         },
-        _ => return answer::refuse(Refusal::InvalidOpcode, 2),
+        _ => return answer::refuse_for(Refusal::InvalidOpcode, 2),
     };
     Ok(face.with(BEGIN))
 }
@@ -199,7 +205,7 @@ pub fn decode_op7D(bs: &[u8], b: u8) -> Decoded
     match b / 16 {
         4 => shared::mul_immediate(bs, false, true, b),
         5 => shared::mul_immediate(bs, false, false, b),
-        6 | 7 | 8 => answer::refuse(Refusal::InvalidOpcode, 2),
+        6 | 7 | 8 => answer::refuse_for(Refusal::InvalidOpcode, 2),
         9 => push_address(bs, b),
         10 => load_level(b),
         11 => add_stack(b),

@@ -16,7 +16,7 @@ fn load_control(bs: &[u8], b: u8) -> Decoded
     ensures { answer_of result ≡ run_row (row_EB_low (b / 16 % 8) 0) bs.now }
 {
     if b / 16 % 8 == 0 {
-        return answer::refuse(Refusal::InvalidOperand, 2);
+        return answer::refuse_for(Refusal::InvalidOperand, 2);
     }
     let s = numbers::imm_word(bs, BEGIN)?;
     let face = Face {
@@ -33,7 +33,7 @@ fn control_alone(opcode: Opcode, b: u8) -> Decoded
     ensures { (bs : List ℕ) → answer_of result ≡ run_row (bare opcode width.None (name_K (b / 16 % 8)) Nothing (K (b / 16 % 8) [])) bs }
 {
     if b / 16 % 8 == 0 {
-        return answer::refuse(Refusal::InvalidOperand, 2);
+        return answer::refuse_for(Refusal::InvalidOperand, 2);
     }
     let face = Face {
         opcode,
@@ -114,7 +114,7 @@ fn row_low(bs: &[u8], b: u8) -> Decoded
             };
             Ok(face.with(BEGIN))
         }
-        6 | 7 => answer::refuse(Refusal::InvalidOperand, 2),
+        6 | 7 => answer::refuse_for(Refusal::InvalidOperand, 2),
         _ => move_address(bs, b),
     }
 }

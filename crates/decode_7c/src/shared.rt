@@ -16,7 +16,7 @@ pub fn mul_immediate(bs: &[u8], byte: bool, unsigned: bool, b: u8) -> Decoded
     ensures { answer_of result ≡ run_row (mul_by unsigned (width_of byte) (b % 16)) bs.now }
 {
     if mul::bad_mul(byte, b % 16) {
-        return answer::refuse(Refusal::InvalidOperand, 2);
+        return answer::refuse_for(Refusal::InvalidOperand, 2);
     }
     let s = numbers::immediate(bs, byte, BEGIN)?;
     let face = Face {

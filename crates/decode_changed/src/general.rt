@@ -62,7 +62,7 @@ pub fn load_control(bs: &[u8], b: u8) -> Decoded
 {
     let s = general::general(bs, answer::BEGIN, b % 16)?;
     if b / 16 % 8 == 0 {
-        return answer::refuse(Refusal::InvalidOperand, s.taken);
+        return answer::refuse_for(Refusal::InvalidOperand, s.taken);
     }
     let face = Face {
         opcode: Opcode::LDC,
@@ -95,7 +95,7 @@ pub fn mul_immediate(bs: &[u8], byte: bool, b: u8) -> Decoded
     ensures { answer_of result ≡ run_row (mul_at (width_of byte) (b / 16) (b % 16)) bs.now }
 {
     if mul::bad_mul(byte, b % 16) {
-        return answer::refuse(Refusal::InvalidOperand, 2);
+        return answer::refuse_for(Refusal::InvalidOperand, 2);
     }
     let s = general::general(bs, answer::BEGIN, b % 16)?;
     let t = numbers::immediate(bs, byte, s)?;

@@ -20,7 +20,7 @@ pub(crate) fn load_level(b: u8) -> Decoded
 {
     let n = b % 16;
     if 8 <= n {
-        return answer::refuse(Refusal::InvalidOperand, 2);
+        return answer::refuse_for(Refusal::InvalidOperand, 2);
     }
     let face = Face {
         opcode: Opcode::LDIPL,

@@ -77,7 +77,7 @@ module _ (r : Record) (third : same_name r.op2 Nothing ≡ true) (a b : ℕ) whe
 
   manual_alone : (g : Bool) → goes r.opcode q ≡ g → by_names g ≡ code a b → both g (is_numbered (entry_of r.opcode).codes) ≡ true → (b < 256) × Alone (taken by_manual (code a b) (key r))
   manual_alone true f e n =
-      (wholly_there r third f n a b e, wholly_taken r third f n a b e)
+      ((wholly_there r third f n a b e).0, wholly_taken r third f n a b e)
   manual_alone false f e n = absurd (false≢true n)
 
   -- what the reading's encoder finds

@@ -21,18 +21,17 @@ use Rattle.encode_rules.proofs.Bools.{so, both_true, picked}
 use Rattle.encode_rules.proofs.Can.{parts}
 use Rattle.std.specs.Prelude.{Some, None}
 use Rattle.encode_choice.specs.steps.Coded.{coded}
-use Rattle.encode_added.specs.declared.Chosen.{Chosen}
-use Rattle.encode_added.specs.steps.Chosen.{chosen}
+use Rattle.encode_choice.specs.declared.Code.{Code}
 
-pub chosen_as : (x : Choice) {w : Bool} {c : Chosen} → chosen (coded x) w ≡ Some c → (x ≡ code c.code.first c.code.second) × (w ≡ c.whole)
-chosen_as (code a b) {w} {c} e =
-    let z : record { code = record { first = a; second = b }; whole = w } ≡ c = cc in
-    (ap (λ c. code c.code.first c.code.second) z, ap (λ c. c.whole) z)
-chosen_as nothing e = cc
+pub coded_as : (x : Choice) {c : Code} → coded x ≡ Some c → x ≡ code c.first c.second
+coded_as (code a b) {c} e =
+    let z : record { first = a; second = b } ≡ c = cc in
+    ap (λ c. code c.first c.second) z
+coded_as nothing e = cc
 
-pub not_chosen : (x : Choice) (w : Bool) → chosen (coded x) w ≡ None → x ≡ nothing
-not_chosen (code a b) w e = cc
-not_chosen nothing w e = refl
+pub uncoded : (x : Choice) → coded x ≡ None → x ≡ nothing
+uncoded (code a b) e = cc
+uncoded nothing e = refl
 
 -- only Nothing has the base Nothing
 nothing_only : (o : Operand) → base_of Nothing ≡ base_of o → same_name o Nothing ≡ true

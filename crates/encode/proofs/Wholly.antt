@@ -60,9 +60,11 @@ module _ (r : Record) (third : same_name r.op2 Nothing ≡ true) (g : goes r.opc
     encodes : able by_manual a b (key r) ≡ true
     encodes = subst (λ k. able by_manual a b k ≡ true) the_key both_so.0
 
-    pub wholly_there : b < 256
+    pub wholly_there : (b < 256) × (by_manual.known a ≡ true)
     unfolding able
-    wholly_there = ltb-true _ _ (both_true (ltb b 256) _ (both_true (ltb a 256) _ (both_true (there by_manual a b) _ encodes).0).1).0
+    wholly_there =
+        let x = both_true (ltb b 256) _ (both_true (ltb a 256) _ (both_true (there by_manual a b) _ encodes).0).1 in
+        (ltb-true _ _ x.0, x.1)
 
     pub wholly_taken : bytes (a ∷ b ∷ []) ≡ taken by_manual (code a b) (key r)
     unfolding taken bytes_by spell

@@ -31,9 +31,10 @@ fn find(r: Record, manual: bool) -> Option<Plan>
     }
     let k = key::key_of(r);
     let q = asks::asked(k);
-    let chosen = encode_added::choose(manual, k.opcode, q, k.number0)?;
-    let a = chosen.code.first;
-    let b = chosen.code.second as u8;
+    let chosen = encode_added::choose(manual, k.opcode, q, k.number0);
+    let code = chosen.code?;
+    let a = code.first;
+    let b = code.second as u8;
     if chosen.whole {
         return Some(Plan {
             first: a,

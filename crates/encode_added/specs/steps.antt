@@ -1,4 +1,3 @@
 pub mod Entries
 pub mod Choose
 pub mod Sets
-pub mod Chosen

@@ -8,15 +8,14 @@ mod codes; // the codes of the changed rows
 ghost use Rattle.std.specs.Prelude.{◌≡◌};
 ghost use Rattle.encode_choice.specs.steps.Coded.{coded};
 ghost use Rattle.encode_added.specs.steps.Choose as choice;
-ghost use Rattle.encode_added.specs.steps.Chosen.{chosen};
 
 use encode_choice::{Asked, Code};
 use record::Opcode;
 
-// A code, and whether it is all: then operand 0's number is part of it, and no bytes follow. (There is a code either way, so no Option.)
+// A code, if there is one, and whether it is all: then operand 0's number is part of it, and no bytes follow. (Both are told, a code or none.)
 #[derive(Clone, Copy)]
 pub struct Chosen {
-    pub code: Code,
+    pub code: Option<Code>,
     pub whole: bool,
 }
 
@@ -29,16 +28,17 @@ fn changes(manual: bool, o: Opcode, q: Asked) -> bool
 
 // The code for what is asked; n is the number of operand 0.
 #[tactic(auto, unfolding(crate::specs::steps::Choose::choose_by, crate::specs::steps::Choose::is_whole))]
-pub fn choose(manual: bool, o: Opcode, q: Asked, n: u32) -> Option<Chosen>
-    ensures { result ≡ chosen (coded (choice.choose_by manual o q n)) (choice.is_whole manual o q) }
+pub fn choose(manual: bool, o: Opcode, q: Asked, n: u32) -> Chosen
+    ensures { (result.code ≡ coded (choice.choose_by manual o q n)) × (result.whole ≡ choice.is_whole manual o q) }
 {
     if changes(manual, o, q) {
-        let code = codes::code_by(o, q, n)?;
-        return Some(Chosen {
-            code,
+        return Chosen {
+            code: codes::code_by(o, q, n),
             whole: codes::is_numbered(o),
-        });
+        };
     }
-    let code = encode_choice::choose(o, q)?;
-    Some(Chosen { code, whole: false })
+    Chosen {
+        code: encode_choice::choose(o, q),
+        whole: false,
+    }
 }

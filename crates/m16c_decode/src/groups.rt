@@ -100,13 +100,13 @@ pub(crate) fn fill_list(a: u8, b: u8, out: &mut [u32; ENTRIES]) -> u32
     if decode_72::is_list(a) {
         return deliver::fill(list::decode_list(a, b), out);
     }
-    deliver::fill(answer::refuse(Refusal::FirstByteOutside, 1), out)
+    deliver::fill(answer::refuse_for(Refusal::FirstByteOutside, 1), out)
 }
 
 pub(crate) fn fill_outside(out: &mut [u32; ENTRIES]) -> u32
     ensures { Filled (refusal 4 1) result out.new }
 {
-    deliver::fill(answer::refuse(Refusal::FirstByteOutside, 1), out)
+    deliver::fill(answer::refuse_for(Refusal::FirstByteOutside, 1), out)
 }
 
 // Fewer than two bytes stand at the place: both readings say the same of them.

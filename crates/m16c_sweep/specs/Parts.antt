@@ -4,6 +4,11 @@ use Rattle.rows.specs.Row.{Table}
 use Rattle.sweep.specs.declared.Rule.{Rule}
 use Rattle.sweep.specs.Swept.{Swept}
 use Rattle.sweep.specs.Sweep.{Sweeps}
+use Rattle.m16c_sweep.specs.declared.Numbers.{Numbers}
+
+-- five numbers that stand in one record, as a sweep's answer
+abbrev pub told : Numbers → Swept
+told n = record { refusal = n.refusal; count = n.count; place = n.place; refused = n.refused; read = n.read }
 
 abbrev pub swept_in : (r count place refused read : ℕ) → Swept
 swept_in r count place refused read = record { refusal = r; count = count; place = place; refused = refused; read = read }

@@ -3,7 +3,7 @@
 #![tactic(auto)]
 
 ghost use Rattle.std.specs.Prelude.{◌≡◌};
-ghost use Rattle.m16c_sweep.specs.Parts.{swept_in, SweepsInParts};
+ghost use Rattle.m16c_sweep.specs.Parts.{told, swept_in, SweepsInParts};
 ghost use Rattle.rows.specs.Groups.{document01};
 ghost use Rattle.sweep.specs.Swept.{swept_of};
 ghost use Rattle.sweep.specs.declared.Rule.{Rule};
@@ -24,7 +24,7 @@ pub fn m16c_sweep(
 ) -> u32
     ensures { SweepsInParts document01 Rule.GoOn image.now starts.old result count.new place.new refused.new read.new starts.new }
 {
-    let swept = sweep::sweep(image, starts);
+    let swept = numbers_of(sweep::sweep(image, starts));
     in_parts(swept, count, place, refused, read)
 }
 
@@ -41,34 +41,55 @@ pub fn m16c_sweep_stopping(
 ) -> u32
     ensures { SweepsInParts document01 Rule.Stop image.now starts.old result count.new place.new refused.new read.new starts.new }
 {
-    let stopped = sweep::sweep_stopping(image, starts);
+    let stopped = numbers_of(sweep::sweep_stopping(image, starts));
     in_parts(stopped, count, place, refused, read)
 }
 
-// A sweep's result in numbers: one that was refused before it began has none but the refusal's.
+// What a sweep tells, as numbers: the refusal is 0 for none, or any.
+#[derive(Clone, Copy)]
+pub struct Numbers {
+    pub refusal: u8,
+    pub count: usize,
+    pub place: usize,
+    pub refused: usize,
+    pub read: usize,
+}
+
+// Those of a sweep's result: one that was refused before it began has none but the refusal's.
+pub fn numbers_of(s: Result<Swept, Refusal>) -> Numbers
+    ensures { told result ≡ swept_of s }
+{
+    match s {
+        Ok(s) => Numbers {
+            refusal: s.stop.map_or(0, u8::from),
+            count: s.count,
+            place: s.place,
+            refused: s.refused,
+            read: s.read,
+        },
+        Err(why) => Numbers {
+            refusal: u8::from(why),
+            count: 0,
+            place: 0,
+            refused: 0,
+            read: 0,
+        },
+    }
+}
+
+// Numbers left one by one, and the refusal returned.
 pub fn in_parts(
-    s: Result<Swept, Refusal>,
+    s: Numbers,
     count: &mut usize,
     place: &mut usize,
     refused: &mut usize,
     read: &mut usize,
 ) -> u32
-    ensures { swept_of s ≡ swept_in result count.new place.new refused.new read.new }
+    ensures { told s ≡ swept_in result count.new place.new refused.new read.new }
 {
-    match s {
-        Ok(s) => {
-            *count = s.count;
-            *place = s.place;
-            *refused = s.refused;
-            *read = s.read;
-            s.stop.map_or(0, u32::from)
-        }
-        Err(why) => {
-            *count = 0;
-            *place = 0;
-            *refused = 0;
-            *read = 0;
-            u32::from(why)
-        }
-    }
+    *count = s.count;
+    *place = s.place;
+    *refused = s.refused;
+    *read = s.read;
+    u32::from(s.refusal)
 }

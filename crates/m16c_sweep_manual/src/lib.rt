@@ -18,7 +18,7 @@ pub fn m16c_sweep_manual(
 ) -> u32
     ensures { SweepsInParts by_manual Rule.GoOn image.now starts.old result count.new place.new refused.new read.new starts.new }
 {
-    let swept = sweep::sweep_manual(image, starts);
+    let swept = m16c_sweep::numbers_of(sweep::sweep_manual(image, starts));
     m16c_sweep::in_parts(swept, count, place, refused, read)
 }
 
@@ -33,6 +33,6 @@ pub fn m16c_sweep_manual_stopping(
 ) -> u32
     ensures { SweepsInParts by_manual Rule.Stop image.now starts.old result count.new place.new refused.new read.new starts.new }
 {
-    let stopped = sweep::sweep_manual_stopping(image, starts);
+    let stopped = m16c_sweep::numbers_of(sweep::sweep_manual_stopping(image, starts));
     m16c_sweep::in_parts(stopped, count, place, refused, read)
 }

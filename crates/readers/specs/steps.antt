@@ -1,3 +1,4 @@
+pub mod Numbered
 pub mod Places
 pub mod Set
 pub mod Told

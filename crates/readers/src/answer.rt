@@ -2,6 +2,7 @@ ghost use Rattle.std.specs.Prelude.{◌≡◌, Ok, Err};
 ghost use Rattle.record.specs.Answer.{answer_of};
 ghost use Rattle.rows.specs.Rows.{size_of};
 ghost use Rattle.rows.specs.Run.{accepted, begun, refusal};
+ghost use Rattle.readers.specs.steps.Numbered.{numbered};
 ghost use Rattle.readers.specs.steps.Width.{width_of};
 
 use record::refusal::{Refusal, Refused};
@@ -55,8 +56,27 @@ impl Face {
     }
 }
 
+// An answer with its refusal as a number, 0 for none: for who has the number and no `Refusal`.
+#[derive(Clone, Copy)]
+pub struct Numbered {
+    pub inst: Record,
+    pub taken: usize,
+    pub refusal: u8,
+}
+
+// A refusal by its number, whatever that is, the bytes taken and the blank record.
+pub fn refuse(no: u8, taken: usize) -> Numbered
+    ensures { numbered result ≡ refusal no taken }
+{
+    Numbered {
+        inst: record::BLANK,
+        taken,
+        refusal: no,
+    }
+}
+
 // A refusal, and the bytes taken.
-pub fn refuse(why: Refusal, taken: usize) -> Decoded
+pub fn refuse_for(why: Refusal, taken: usize) -> Decoded
     ensures { result ≡ Err (record { why = why; taken = taken }) }
 {
     Err(Refused { why, taken })

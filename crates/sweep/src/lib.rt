@@ -6,7 +6,7 @@ ghost use Rattle.std.specs.Prelude.{◌+◌, ◌-◌, ◌≤◌, ◌≡◌, leng
 ghost use Rattle.record.specs.Answer.{number_of};
 ghost use Rattle.rows.specs.Groups.{document01};
 ghost use Rattle.by_manual.specs.Table.{by_manual, table_by};
-ghost use Rattle.sweep.specs.Swept.{swept_of};
+ghost use Rattle.sweep.specs.Swept.{swept_of, begins, has_begun};
 ghost use Rattle.sweep.specs.Sweep.{Sweeps};
 ghost use Rattle.sweep.specs.steps.Before.{Took, Runs};
 
@@ -43,27 +43,31 @@ struct Stopped {
 // The four are one function: each has a name of its own, since each has a promise of its own.
 // The starts of an image's instructions to its end; a refused place is counted, and passed by one byte.
 pub fn sweep(image: &[u8], starts: &mut [u16]) -> Result<Swept, Refusal>
-    ensures { Sweeps document01 Rule.GoOn image.now starts.old (swept_of result) starts.new }
+    ensures swept { Sweeps document01 Rule.GoOn image.now starts.old (swept_of result) starts.new }
+    ensures begun { has_begun result ≡ begins image.now starts.old }
 {
     sweep_by(false, Rule::GoOn, image, starts)
 }
 
 // The starts of an image's instructions to its end or the first refusal.
 pub fn sweep_stopping(image: &[u8], starts: &mut [u16]) -> Result<Swept, Refusal>
-    ensures { Sweeps document01 Rule.Stop image.now starts.old (swept_of result) starts.new }
+    ensures swept { Sweeps document01 Rule.Stop image.now starts.old (swept_of result) starts.new }
+    ensures begun { has_begun result ≡ begins image.now starts.old }
 {
     sweep_by(false, Rule::Stop, image, starts)
 }
 
 // Both by the manual.
 pub fn sweep_manual(image: &[u8], starts: &mut [u16]) -> Result<Swept, Refusal>
-    ensures { Sweeps by_manual Rule.GoOn image.now starts.old (swept_of result) starts.new }
+    ensures swept { Sweeps by_manual Rule.GoOn image.now starts.old (swept_of result) starts.new }
+    ensures begun { has_begun result ≡ begins image.now starts.old }
 {
     sweep_by(true, Rule::GoOn, image, starts)
 }
 
 pub fn sweep_manual_stopping(image: &[u8], starts: &mut [u16]) -> Result<Swept, Refusal>
-    ensures { Sweeps by_manual Rule.Stop image.now starts.old (swept_of result) starts.new }
+    ensures swept { Sweeps by_manual Rule.Stop image.now starts.old (swept_of result) starts.new }
+    ensures begun { has_begun result ≡ begins image.now starts.old }
 {
     sweep_by(true, Rule::Stop, image, starts)
 }
@@ -72,7 +76,8 @@ pub fn sweep_manual_stopping(image: &[u8], starts: &mut [u16]) -> Result<Swept, 
 // instructions, since one loop for both takes more machine instructions than a sweep did that could only stop. (No `for` in either: a place
 // moves on by what was decoded.)
 fn sweep_by(manual: bool, rule: Rule, image: &[u8], starts: &mut [u16]) -> Result<Swept, Refusal>
-    ensures { Sweeps (table_by manual) rule image.now starts.old (swept_of result) starts.new }
+    ensures swept { Sweeps (table_by manual) rule image.now starts.old (swept_of result) starts.new }
+    ensures begun { has_begun result ≡ begins image.now starts.old }
 {
     if 4096 < image.len() {
         return Err(Refusal::ImageTooLong);

@@ -20,4 +20,4 @@ returns c =
     c.decode_code.ensures
     ∙ ap (λ r. pick (known (get_or bs 0 0)) (run_row r bs) (refusal 4 1)) (row_by_lem c.args.manual (get_or bs 0 0) (get_or bs 1 0))
     ∙ ap (λ k. pick k (run_row (t.row_at (get_or bs 0 0) (get_or bs 1 0)) bs) (refusal 4 1)) (known_by c.args.manual (get_or bs 0 0))
-    ∙ two t bs c.in-len2-up.len_at_least ∙ ap (decode_by t) (rest c.args.at image)
+    ∙ two t bs c.if-bs-lt2.false ∙ ap (decode_by t) (rest c.args.at image)

@@ -37,4 +37,4 @@ returns c =
       | else-a-gt193-via-then-a-gt193+else-is_list w ↦ sym w.is_list.ensures ∙ w.if-is_list.false
       | else-a-gt193-via-else-a-gt193 w ↦ early c.args.a w.if-a-gt193.false
     ] in
-    rw (sym c.is_two.ensures ∙ c.if-is_two.false, none) (ap answer_of c.refuse.ensures)
+    rw (sym c.is_two.ensures ∙ c.if-is_two.false, none) (ap answer_of c.refuse_for.ensures)

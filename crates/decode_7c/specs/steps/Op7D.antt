@@ -1,5 +1,5 @@
 -- Parts of 7D as the code takes them. (The laws that these are document 01's rows are in proofs/Table7D.)
-use Rattle.std.specs.Prelude.{ℕ, ◌%◌, Bool, Option, Some, None, [], ◌∷◌, get_or, leb, eqb}
+use Rattle.std.specs.Prelude.{ℕ, ◌+◌, ◌%◌, Bool, Option, Some, None, [], ◌∷◌, get_or, leb, ltb, eqb}
 use Rattle.laws.specs.Choice.{pick}
 use Rattle.record.specs.declared.Opcode.{Opcode}
 use Rattle.record.specs.declared.Opcode.TheVariants.{JMPI, JSRI, JLE, JO, JGE, JGT, JNO, JLT, BMGEU, BMGTU, BMEQ, BMN, BMLTU, BMLEU, BMNE, BMPZ, BMLE, BMO, GE, BMGT, NO, LT}
@@ -13,6 +13,10 @@ opcode_J h = pick (eqb (h % 2) 0) JMPI JSRI
 
 unfoldable pub jump_by : ℕ → ℕ → Row
 jump_by h n = star_if (leb 2 h) (indirect (opcode_J h) n)
+
+-- three bits with their sign, in 32
+abbrev pub signed3 : ℕ → ℕ
+signed3 n = pick (ltb n 4) n (0xFFFFFFF8 + n)
 
 -- the jumps from code 8 on, and the conditions: B and F name none
 abbrev pub jump_at : ℕ → Option Opcode

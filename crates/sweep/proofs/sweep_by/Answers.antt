@@ -1,7 +1,7 @@
 -- `sweep::sweep_by` meets its contract.
 -- Assumes nothing.
 use Rattle.std.proofs.Common.{◌≡◌, ℕ, ◌+◌, ◌-◌, ◌≤◌, ◌<◌, List, length, refl, sym, ap, subst, ◌∙◌, arith}
-use borrow.Author.Tests.{lt-ltb, le-ltb}
+use borrow.Author.Tests.{lt-ltb, le-ltb, lt-leb, le-leb}
 use Rattle.rows.specs.Row.{Table}
 use Rattle.rows.specs.Run.{decode_by}
 use Rattle.sweep.specs.declared.Rule.{Rule}
@@ -40,11 +40,17 @@ module _ (t : Table) (rule : Rule) (bs ss : List ℕ) where
       → Continues rule (walk (decode_by t) rule bs) bs (whole t rule bs ss) m read (why_no r.refused) r.count r.place after
   goes_on p n m d now room ran left read = continues (by_table t) bs rule p n m d now room ran.walked read left
 
-pub returns-then-image-gt4096 : goal.returns-then-image-gt4096
-returns-then-image-gt4096 c = too_long _ _ _ _ (omega arith) refl
+pub returns-then-image-gt4096-clause-swept : goal.returns-then-image-gt4096-clause-swept
+returns-then-image-gt4096-clause-swept c = too_long _ _ _ _ (omega arith) refl
 
-pub returns-then-starts-image : goal.returns-then-starts-image
-returns-then-starts-image c = no_room _ _ _ _ (omega arith) (omega arith) refl
+pub returns-then-starts-image-clause-swept : goal.returns-then-starts-image-clause-swept
+returns-then-starts-image-clause-swept c = no_room _ _ _ _ (omega arith) (omega arith) refl
+
+pub returns-then-image-gt4096-clause-begun : goal.returns-then-image-gt4096-clause-begun
+returns-then-image-gt4096-clause-begun c = rw (lt-leb _ _ c.if-image-gt4096.true) refl
+
+pub returns-then-starts-image-clause-begun : goal.returns-then-starts-image-clause-begun
+returns-then-starts-image-clause-begun c = rw (le-leb _ _ c.if-image-gt4096.false, lt-leb _ _ c.if-starts-image.true) refl
 
 pub loop-here-init : goal.loop-here-init
 loop-here-init c = record {
@@ -57,8 +63,8 @@ loop-here-init c = record {
 }
 
 -- at the image's end
-pub returns-in_default : goal.returns-in_default
-returns-in_default c =
+pub returns-in_default-clause-swept : goal.returns-in_default-clause-swept
+returns-in_default-clause-swept c =
     let l = c.loop-here in
     let end = ap why_no c.in_default.is in
     let done = c.run-stopped.ensures in

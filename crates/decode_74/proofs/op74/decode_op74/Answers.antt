@@ -22,7 +22,7 @@ pub returns-then-stop_74 : goal.returns-then-stop_74
 unfolding run_row table74
 returns-then-stop_74 c =
     rw (tabled (width_of c.args.byte) c.args.b (omega arith), sym c.stop_74.ensures ∙ c.if-stop_74.true)
-    (stops InvalidOperand _ _ _ _ (ap answer_of c.refuse.ensures))
+    (stops InvalidOperand _ _ _ _ (ap answer_of c.refuse_for.ensures))
 
 -- too few bytes for G(n)
 pub returns-in_err-s : goal.returns-in_err-s

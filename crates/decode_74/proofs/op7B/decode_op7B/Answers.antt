@@ -14,7 +14,7 @@ returns-then-b-ge128 c = in_upper stc W c.args.b c.args.bs.now (search rules) (o
 
 pub returns-then-b-ge64 : goal.returns-then-b-ge64
 unfolding row_7B
-returns-then-b-ge64 c = in_none stc W c.args.b c.args.bs.now (omega arith) (omega arith) (ap answer_of c.refuse.ensures)
+returns-then-b-ge64 c = in_none stc W c.args.b c.args.bs.now (omega arith) (omega arith) (ap answer_of c.refuse_for.ensures)
 
 pub returns : goal.returns
 unfolding row_7B

@@ -17,7 +17,7 @@ tabled b l = tables_7E _ _ (omega arith)
 
 pub returns-then-h-ge14 : goal.returns-then-h-ge14
 unfolding run_row row
-returns-then-h-ge14 c = rw (tabled c.args.b (omega arith), le-leb _ _ c.if-h-ge14.true) (stops InvalidOpcode _ _ _ _ (ap answer_of c.refuse.ensures))
+returns-then-h-ge14 c = rw (tabled c.args.b (omega arith), le-leb _ _ c.if-h-ge14.true) (stops InvalidOpcode _ _ _ _ (ap answer_of c.refuse_for.ensures))
 
 pub returns-then-h-eq2 : goal.returns-then-h-eq2
 unfolding run_row row
