@@ -5,13 +5,11 @@ use native.Mathlib.Omega.{arith}
 use mathlib.Core.Path.{◌≡◌, refl}
 use mathlib.Core.List.{[], ◌∷◌}
 use lib.Dec.{ltb}
-use Rattle.std.specs.Prelude.{Option, Some, None}
-use Rattle.record.specs.declared.Opcode.{Opcode}
 use Rattle.laws.specs.Choice.{pick}
 use Rattle.laws.proofs.Agree.{agree, Rest, agree_past}
 use Rattle.rows.specs.Row.{InvalidOpcode, Row}
 use Rattle.rows.specs.Rows.{row, refused, star_if, jump, flagged, row_7D, row_7DC, row_7DD, row_7DF}
-use Rattle.decode_7c.specs.steps.Op7D.{jump_by, jump_at, condition_by, marked_by}
+use Rattle.decode_7c.specs.steps.Op7D.{jump_by, no_condition, jump_at, condition_by, marked_by}
 
 -- h below 4
 pub jumps : (n h : ℕ) → h < 4 → row_7D h n ≡ jump_by h n
@@ -33,20 +31,15 @@ pub past_F : (n : ℕ) → n < 16 → Rest (3 ∷ 2 ∷ 1 ∷ 0 ∷ []) n → ro
 unfolding row row_7DF
 past_F = agree_past (3 ∷ 2 ∷ 1 ∷ 0 ∷ []) (refused InvalidOpcode) row_7DF (λ n. refused InvalidOpcode) 16 refl
 
--- the row of an opcode, if there is one
-abbrev pub row_or_none : (Opcode → Row) → Option Opcode → Row
-row_or_none r (Some o) = r o
-row_or_none r None = refused InvalidOpcode
-
 abbrev pub table_J : ℕ → Row
-table_J n = pick (ltb n 8) (refused InvalidOpcode) (row_or_none jump (jump_at n))
+table_J n = pick (ltb n 8) (refused InvalidOpcode) (pick (no_condition n) (refused InvalidOpcode) (jump (jump_at n)))
 
 pub conditional_jumps : (n : ℕ) → n < 16 → row_7DC n ≡ table_J n
 unfolding row row_7DC
 conditional_jumps = agree row_7DC table_J 16 refl
 
 abbrev pub table_D : ℕ → Row
-table_D n = row_or_none (λ o. star_if (marked_by n) (flagged o)) (condition_by n)
+table_D n = pick (no_condition n) (refused InvalidOpcode) (star_if (marked_by n) (flagged (condition_by n)))
 
 pub conditions : (n : ℕ) → n < 16 → row_7DD n ≡ table_D n
 unfolding row row_7DD

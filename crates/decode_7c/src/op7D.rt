@@ -2,7 +2,7 @@ ghost use Rattle.std.specs.Prelude.{◌≡◌, ◌<◌, List, ℕ, ◌/◌, ◌%
 ghost use Rattle.record.specs.Answer.{answer_of};
 ghost use Rattle.rows.specs.Rows.{add_SP, ldipl, pusha, row_7D, row_7DC, row_7DD, row_7DF};
 ghost use Rattle.rows.specs.Run.{run_row};
-ghost use Rattle.decode_7c.specs.steps.Op7D.{opcode_J, signed3, jump_by};
+ghost use Rattle.decode_7c.specs.steps.Op7D.{opcode_J, signed3, no_condition, jump_by};
 
 use crate::shared;
 use readers::answer::{self, BEGIN, Decoded, Face, NAMELESS};
@@ -105,17 +105,26 @@ fn add_stack(b: u8) -> Decoded
     Ok(face.with(answer::begin(u32::from(b % 16 % 8))))
 }
 
-// From code 8 on; B and F name no condition.
-const JUMPS: [Option<Opcode>; 8] = [
-    Some(Opcode::JLE),
-    Some(Opcode::JO),
-    Some(Opcode::JGE),
-    None,
-    Some(Opcode::JGT),
-    Some(Opcode::JNO),
-    Some(Opcode::JLT),
-    None,
+// From code 8 on. (B and F name none: with `Option`s for these the table is copied before it is read, and a sweep of 7D takes three instructions
+// more.)
+const JUMPS: [Opcode; 8] = [
+    Opcode::JLE,
+    Opcode::JO,
+    Opcode::JGE,
+    Opcode::NOP,
+    Opcode::JGT,
+    Opcode::JNO,
+    Opcode::JLT,
+    Opcode::NOP,
 ];
+
+// B and F name no condition.
+fn no_condition(n: u8) -> bool
+    requires { n < 16 }
+    ensures { result ≡ no_condition n }
+{
+    set::has(0x8800, n)
+}
 
 // Jumps on a condition: one byte.
 fn jump(bs: &[u8], b: u8) -> Decoded
@@ -125,37 +134,36 @@ fn jump(bs: &[u8], b: u8) -> Decoded
     if n < 8 {
         return answer::refuse_for(Refusal::InvalidOpcode, 2);
     }
-    // (`as` and no conversion, here and below: that is a call, one step more in each proof.)
-    let Some(opcode) = JUMPS[(n % 8) as usize] else {
+    if no_condition(n) {
         return answer::refuse_for(Refusal::InvalidOpcode, 2);
-    };
+    }
     let s = numbers::imm_byte(bs, BEGIN)?;
     let face = Face {
-        opcode,
+        // (`as` and no conversion, here and below: that is a call, one step more in each proof.)
+        opcode: JUMPS[(n % 8) as usize],
         op0: Operand::Disp8,
         ..AT_W
     };
     Ok(face.with(s))
 }
 
-// As the jumps, B and F name no condition.
-const CONDITIONS: [Option<Opcode>; 16] = [
-    Some(Opcode::BMGEU),
-    Some(Opcode::BMGTU),
-    Some(Opcode::BMEQ),
-    Some(Opcode::BMN),
-    Some(Opcode::BMLTU),
-    Some(Opcode::BMLEU),
-    Some(Opcode::BMNE),
-    Some(Opcode::BMPZ),
-    Some(Opcode::BMLE),
-    Some(Opcode::BMO),
-    Some(Opcode::GE),
-    None,
-    Some(Opcode::BMGT),
-    Some(Opcode::NO),
-    Some(Opcode::LT),
-    None,
+const CONDITIONS: [Opcode; 16] = [
+    Opcode::BMGEU,
+    Opcode::BMGTU,
+    Opcode::BMEQ,
+    Opcode::BMN,
+    Opcode::BMLTU,
+    Opcode::BMLEU,
+    Opcode::BMNE,
+    Opcode::BMPZ,
+    Opcode::BMLE,
+    Opcode::BMO,
+    Opcode::GE,
+    Opcode::NOP,
+    Opcode::BMGT,
+    Opcode::NO,
+    Opcode::LT,
+    Opcode::NOP,
 ];
 
 // A condition by n; GE, NO and LT are marked.
@@ -163,11 +171,11 @@ fn conditional(b: u8) -> Decoded
     ensures { (bs : List ℕ) → answer_of result ≡ run_row (row_7DD (b % 16)) bs }
 {
     let n = b % 16;
-    let Some(opcode) = CONDITIONS[n as usize] else {
+    if no_condition(n) {
         return answer::refuse_for(Refusal::InvalidOpcode, 2);
-    };
+    }
     let face = Face {
-        opcode,
+        opcode: CONDITIONS[n as usize],
         marked: set::has(0x6400, n),
         ..AT_W
     };
