@@ -15,10 +15,12 @@ use record::refusal::Refusal;
 pub fn decode_op78(bs: &[u8], byte: bool, b: u8) -> Decoded
     ensures { answer_of result ≡ run_row (row78 (width_of byte) (b / 16) (b % 16)) bs.now }
 {
-    let s = general::general(bs, answer::BEGIN, b / 16)?;
+    // (Judged first and refused behind the source's bytes: so what is not refused does not carry the reason past them.)
     if mul::bad_mul(byte, b % 16) {
+        let s = general::general(bs, answer::BEGIN, b / 16)?;
         return answer::refuse_for(Refusal::InvalidOperand, s.taken);
     }
+    let s = general::general(bs, answer::BEGIN, b / 16)?;
     let t = general::general(bs, s, b % 16)?;
     let face = Face {
         opcode: Opcode::MUL,
